@@ -1,0 +1,4 @@
+pub mod Table
+pub mod Bodies
+pub mod Refusals
+pub mod Accepted

@@ -1,0 +1,4 @@
+pub mod Shapes
+pub mod Layout
+pub mod Verdict
+pub mod WellFormed

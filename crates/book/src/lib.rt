@@ -1,0 +1,6 @@
+// Rule books: loading, and reading what is loaded.
+pub mod book;
+pub mod error;
+pub mod load;
+pub mod shape;
+pub mod walk;

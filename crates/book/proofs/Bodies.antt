@@ -17,6 +17,12 @@ use Rattle.book.specs.declared.shape.Construct.{Construct}
 use Rattle.book.specs.declared.shape.Field.{Field}
 use Rattle.book.specs.declared.shape.Shape.{Shape}
 
+-- A shape tells its construct
+pub construct-of-shape : (o : Option Construct) → shapeOf o .construct ≡ o
+unfolding shapeOf
+construct-of-shape None = refl
+construct-of-shape (Some c) = refl
+
 -- A known body has its tag, its head and its tail
 pub head-fits : (o : Option Construct) → isSome o ≡ true → 1 + shapeOf o .head ≤ shapeOf o .length
 unfolding shapeOf
@@ -57,10 +63,10 @@ module _ (ws : List ℕ) (p : ℕ) (s : Shape) (is : s ≡ shape ws p) where
 
   module _ (t : Field → ℕ → Bool) where
     body-is :
-      bodyPasses t ws p
-      ≡ (runPasses t ws p 0 (p + 1) (s .head)
+        bodyPasses t ws p
+        ≡ (runPasses t ws p 0 (p + 1) (s .head)
         && (groupsPass t ws p (groupsFrom ws p) (groups ws p)
-          && runPasses t ws p (s .head + s .group) (tailFrom ws p) (s .length - 1 - s .head)))
+        && runPasses t ws p (s .head + s .group) (tailFrom ws p) (s .length - 1 - s .head)))
     unfolding bodyPasses
     body-is =
         ap (λ (x : Shape). runPasses t ws p 0 (p + 1) (x .head) && (groupsPass t ws p (groupsFrom ws p) (groups ws p) && runPasses t ws p (x .head + x .group) (tailFrom ws p) (x .length - 1 - x .head))) (sym is)
@@ -72,8 +78,8 @@ module _ (ws : List ℕ) (p : ℕ) (s : Shape) (is : s ≡ shape ws p) where
     groups-fail h = sym (body-is ∙ and-right _ _ (and-left _ _ h))
 
     pub tail-decides :
-      runPasses t ws p 0 (p + 1) (s .head) ≡ true → groupsPass t ws p (groupsFrom ws p) (groups ws p) ≡ true
-      → runPasses t ws p (s .head + s .group) (tailFrom ws p) (s .length - 1 - s .head) ≡ bodyPasses t ws p
+        runPasses t ws p 0 (p + 1) (s .head) ≡ true → groupsPass t ws p (groupsFrom ws p) (groups ws p) ≡ true
+        → runPasses t ws p (s .head + s .group) (tailFrom ws p) (s .length - 1 - s .head) ≡ bodyPasses t ws p
     tail-decides a b =
         sym (body-is ∙ ap (λ x. x && (groupsPass t ws p (groupsFrom ws p) (groups ws p) && runPasses t ws p (s .head + s .group) (tailFrom ws p) (s .length - 1 - s .head))) a
         ∙ ap (λ x. x && runPasses t ws p (s .head + s .group) (tailFrom ws p) (s .length - 1 - s .head)) b)

@@ -2,3 +2,4 @@ pub mod Table
 pub mod Bodies
 pub mod Refusals
 pub mod Accepted
+pub mod Reading

@@ -23,15 +23,6 @@ use Rattle.book.specs.declared.error.BookFault.the-variants.{BadField, BadLeng
 use Rattle.book.specs.declared.shape.Construct.{Construct}
 use Rattle.book.specs.declared.shape.Shape.{Shape}
 
-construct-of-shape : (o : Option Construct) → shapeOf o .construct ≡ o
-unfolding shapeOf
-construct-of-shape None = refl
-construct-of-shape (Some c) = refl
-
-pub named-by-shape : (ws : List ℕ) (q : ℕ) (s : Shape) (b : Bool) → s ≡ shape ws q → isSome (s .construct) ≡ b → isSome (construct ws q) ≡ b
-named-by-shape ws q s b is h =
-    sym (ap isSome (ap (λ (x : Shape). x .construct) is ∙ construct-of-shape (construct ws q))) ∙ h
-
 -- The body of entry e, which has to stand at q
 module _ (ws : List ℕ) (e q : ℕ) (starts : q ≡ start ws e) where
   away : (place ws e ≡ q → ⊥) → not (eqb (place ws e) (start ws e)) ≡ true
@@ -42,12 +33,12 @@ module _ (ws : List ℕ) (e q : ℕ) (starts : q ≡ start ws e) where
   elsewhere h =
       cond-true (not (eqb (place ws e) (start ws e)) || leb (length ws) (place ws e)) _ _
       (⊎-elim (λ ne. or-left (not (eqb (place ws e) (start ws e))) _ (away ne))
-        (λ past.
-            ⊎-elim
-            (λ same. or-right (not (eqb (place ws e) (start ws e))) (leb (length ws) (place ws e)) (le-leb (length ws) (place ws e) (omega arith)))
-            (λ ne. or-left (not (eqb (place ws e) (start ws e))) _ (away ne))
-            (cases-eq (place ws e) q))
-        h)
+      (λ past.
+      ⊎-elim
+      (λ same. or-right (not (eqb (place ws e) (start ws e))) (leb (length ws) (place ws e)) (le-leb (length ws) (place ws e) (omega arith)))
+      (λ ne. or-left (not (eqb (place ws e) (start ws e))) _ (away ne))
+      (cases-eq (place ws e) q))
+      h)
 
   module _ (here : place ws e ≡ q) (within : q < length ws) where
     stands : (not (eqb (place ws e) (start ws e)) || leb (length ws) (place ws e)) ≡ false
@@ -85,8 +76,8 @@ module _ (ws : List ℕ) (e q : ℕ) (starts : q ≡ start ws e) where
             layout-left
             ∙ cond-true (misplaced e (getD ws q 0) || not (bodyPasses fits ws q)) _ _
             (⊎-elim (λ m. or-left (misplaced e (getD ws q 0)) (not (bodyPasses fits ws q)) m)
-              (λ b. or-right (misplaced e (getD ws q 0)) (not (bodyPasses fits ws q)) (not-from-false _ b))
-              h)
+            (λ b. or-right (misplaced e (getD ws q 0)) (not (bodyPasses fits ws q)) (not-from-false _ b))
+            h)
 
         pub fine : misplaced e (getD ws q 0) ≡ false → bodyPasses fits ws q ≡ true → layoutFault ws e ≡ None
         fine m b = layout-left ∙ cond-false _ _ _ (or-from _ _ m (not-from-true _ b))
@@ -156,13 +147,13 @@ laid ws e h =
     let d = refused-not (misplaced e (getD ws (place ws e) 0) || not (bodyPasses fits ws (place ws e))) BadField _ (c .1) in
     let s = or-parts (not (eqb (place ws e) (start ws e))) (leb (length ws) (place ws e)) (a .0) in
     let f = or-parts (misplaced e (getD ws (place ws e) 0)) (not (bodyPasses fits ws (place ws e))) (d .0) in
-    record
-    { here = eqb-true _ _ (not-false _ (s .0))
-    ; inside = leb-false (length ws) (place ws e) (s .1)
-    ; named = not-false _ (b .0)
-    ; whole = ltb-false (length ws) (end ws (place ws e)) (c .0)
-    ; unit = f .0
-    ; fields = not-false _ (f .1)
+    record {
+      here = eqb-true _ _ (not-false _ (s .0));
+      inside = leb-false (length ws) (place ws e) (s .1);
+      named = not-false _ (b .0);
+      whole = ltb-false (length ws) (end ws (place ws e)) (c .0);
+      unit = f .0;
+      fields = not-false _ (f .1);
     }
 
 pub unlaid : (ws : List ℕ) (e : ℕ) → Laid ws e → layoutFault ws e ≡ None
@@ -180,19 +171,19 @@ sizes ws h =
     let a = and-parts (leb 1 (entries ws)) _ h in
     let b = and-parts (leb (entries ws) 4096) _ (a .1) in
     let c = and-parts (leb (entries ws + 1) (length ws)) _ (b .1) in
-    record
-    { some = leb-true 1 (entries ws) (a .0)
-    ; few = leb-true (entries ws) 4096 (b .0)
-    ; room = leb-true (entries ws + 1) (length ws) (c .0)
-    ; short = leb-true (length ws) 65535 (c .1)
+    record {
+      some = leb-true 1 (entries ws) (a .0);
+      few = leb-true (entries ws) 4096 (b .0);
+      room = leb-true (entries ws + 1) (length ws) (c .0);
+      short = leb-true (length ws) 65535 (c .1);
     }
 
 pub unsized : (ws : List ℕ) → Sized ws → sized ws ≡ true
 unsized ws s =
     and-from (leb 1 (entries ws)) _ (le-leb 1 (entries ws) (s .some))
     (and-from (leb (entries ws) 4096) _ (le-leb (entries ws) 4096 (s .few))
-      (and-from (leb (entries ws + 1) (length ws)) _ (le-leb (entries ws + 1) (length ws) (s .room))
-        (le-leb (length ws) 65535 (s .short))))
+    (and-from (leb (entries ws + 1) (length ws)) _ (le-leb (entries ws + 1) (length ws) (s .room))
+    (le-leb (length ws) 65535 (s .short))))
 
 -- The parts of the verdict, in their order
 module _ (ws : List ℕ) where

@@ -68,4 +68,4 @@ unfoldable pub bodyPasses : (Field → ℕ → Bool) → List ℕ → ℕ → Bo
 bodyPasses t ws p =
     runPasses t ws p 0 (p + 1) (shape ws p .head)
     && (groupsPass t ws p (groupsFrom ws p) (groups ws p)
-        && runPasses t ws p (shape ws p .head + shape ws p .group) (tailFrom ws p) (tail ws p))
+    && runPasses t ws p (shape ws p .head + shape ws p .group) (tailFrom ws p) (tail ws p))

@@ -113,11 +113,11 @@ fieldsOf (Some c) = layoutOf c .head ++ layoutOf c .group ++ layoutOf c .tail
 unfoldable pub shapeOf : Option Construct → Shape
 shapeOf None = record { construct = None; length = 0; head = 0; group = 0 }
 shapeOf (Some c) =
-    record
-    { construct = Some c
-    ; length = 1 + length (layoutOf c .head) + length (layoutOf c .tail)
-    ; head = length (layoutOf c .head)
-    ; group = length (layoutOf c .group)
+    record {
+      construct = Some c;
+      length = 1 + length (layoutOf c .head) + length (layoutOf c .tail);
+      head = length (layoutOf c .head);
+      group = length (layoutOf c .group);
     }
 
 -- The constructs by their tags, 0 to 48: 19 to 31 and 38 to 47 are unknown
@@ -125,7 +125,7 @@ abbrev pub constructs : List (Option Construct)
 constructs =
     map Some
     (UnitEntry ∷ Empty ∷ Compound ∷ Assignment ∷ Increment ∷ Decrement ∷ If ∷ Switch ∷ Loop ∷ For ∷ While ∷ Break
-        ∷ Continue ∷ Return ∷ Discard ∷ CallStatement ∷ ConstAssert ∷ Declaration ∷ Continuing ∷ [])
+    ∷ Continue ∷ Return ∷ Discard ∷ CallStatement ∷ ConstAssert ∷ Declaration ∷ Continuing ∷ [])
     ++ replicate 13 None ++ map Some (Literal ∷ Parenthesized ∷ Unary ∷ Binary ∷ Name ∷ Call ∷ []) ++ replicate 10 None
     ++ (Some Function ∷ [])
 

@@ -14,11 +14,11 @@ use Rattle.book.specs.declared.shape.Field.{Field}
 pub record EachField (P : Field → ℕ → Type 0) (ws : List ℕ) (p : ℕ) : Type 0 where
   pub inHead : (i : ℕ) → i < shape ws p .head → P (field ws p i) (getD ws (p + 1 + i) 0)
   pub inGroups :
-    (j i : ℕ) → j < groups ws p → i < shape ws p .group
-    → P (field ws p (shape ws p .head + i)) (getD ws (groupsFrom ws p + shape ws p .group * j + i) 0)
+      (j i : ℕ) → j < groups ws p → i < shape ws p .group
+      → P (field ws p (shape ws p .head + i)) (getD ws (groupsFrom ws p + shape ws p .group * j + i) 0)
   pub inTail :
-    (i : ℕ) → i < tail ws p
-    → P (field ws p (shape ws p .head + shape ws p .group + i)) (getD ws (tailFrom ws p + i) 0)
+      (i : ℕ) → i < tail ws p
+      → P (field ws p (shape ws p .head + shape ws p .group + i)) (getD ws (tailFrom ws p + i) 0)
 
 pub record WellFormed (ws : List ℕ) : Type 0 where
   pub some : 1 ≤ entries ws

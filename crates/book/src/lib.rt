@@ -2,5 +2,6 @@
 pub mod book;
 pub mod error;
 pub mod load;
+pub mod node;
 pub mod shape;
 pub mod walk;

@@ -14,8 +14,8 @@ use crate::error::BookError;
 use crate::error::BookFault;
 use crate::walk::Pass;
 use crate::walk::body_passes;
+use crate::walk::construct_at;
 use crate::walk::end_of;
-use crate::walk::shape_at;
 use crate::walk::word;
 
 // Whether there are 1 to 4,096 entries, room for their places, and at most 65,535 words.
@@ -43,8 +43,7 @@ fn check_body(words: &[u16], e: usize, at: usize) -> Result<usize, BookFault>
     if word(words, e + 1) as usize != at || words.len() <= at {
         return Err(BookFault::BadPlace);
     }
-    let shape = shape_at(words, at);
-    if shape.construct.is_none() {
+    if construct_at(words, at).is_none() {
         return Err(BookFault::BadField);
     }
     let end = end_of(words, at);
@@ -71,7 +70,10 @@ fn lay_out(words: &[u16]) -> Result<(), BookError>
         }
     }
     if at < words.len() {
-        return Err(BookError { fault: BookFault::BadPlace, entry: n - 1 });
+        return Err(BookError {
+            fault: BookFault::BadPlace,
+            entry: n - 1,
+        });
     }
     Ok(())
 }
@@ -86,7 +88,10 @@ fn check_children(words: &[u16]) -> Result<(), BookError>
     for e in 0..n {
         let at = word(words, e as usize + 1) as usize;
         if !body_passes(Pass::Children, words, e as usize, at) {
-            return Err(BookError { fault: BookFault::WrongChild, entry: e });
+            return Err(BookError {
+                fault: BookFault::WrongChild,
+                entry: e,
+            });
         }
     }
     Ok(())
@@ -97,7 +102,10 @@ fn judge(words: &[u16]) -> Result<(), BookError>
     ensures { λ r. ⌜ r ≡ verdict (now (words .entry)) ⌝ }
 {
     if !is_sized(words) {
-        return Err(BookError { fault: BookFault::BadLength, entry: 0 });
+        return Err(BookError {
+            fault: BookFault::BadLength,
+            entry: 0,
+        });
     }
     lay_out(words)?;
     check_children(words)
@@ -108,7 +116,9 @@ impl<'a> Book<'a> {
     pub fn empty() -> Book<'a>
         ensures { λ r. ⌜ now (r .words) ≡ smallest ⌝ }
     {
-        Book { words: &[1, 2, 0, 0] }
+        Book {
+            words: &[1, 2, 0, 0],
+        }
     }
 
     // Takes the words over if they are a book, and else leaves the book as it was.

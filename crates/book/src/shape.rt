@@ -70,93 +70,513 @@ pub struct Shape {
     pub group: u8,
 }
 
-const WORD: Field = Field::Number { least: 0, most: 65535 };
-const NAME: Field = Field::Number { least: 0, most: 65534 };
-const TYPE: Field = Field::Number { least: 0, most: 65535 };
-const PARAMETER_TYPE: Field = Field::Number { least: 0, most: 65534 };
+const WORD: Field = Field::Number {
+    least: 0,
+    most: 65535,
+};
+
+const NAME: Field = Field::Number {
+    least: 0,
+    most: 65534,
+};
+
+const TYPE: Field = Field::Number {
+    least: 0,
+    most: 65535,
+};
+
+const PARAMETER_TYPE: Field = Field::Number {
+    least: 0,
+    most: 65534,
+};
+
 const ASSIGNMENT_OPERATOR: Field = Field::Number { least: 0, most: 8 };
+
 const UNARY_OPERATOR: Field = Field::Number { least: 0, most: 2 };
+
 const BINARY_OPERATOR: Field = Field::Number { least: 0, most: 15 };
+
 const DECLARATION_KIND: Field = Field::Number { least: 0, most: 2 };
+
 const FLAGS: Field = Field::Number { least: 0, most: 3 };
+
 const COUNT: Field = Field::Number { least: 0, most: 64 };
+
 const IF_COUNT: Field = Field::Number { least: 1, most: 64 };
+
 const ARGUMENT_COUNT: Field = Field::Number { least: 0, most: 16 };
 
 // The table over the tags 0 to 48: the lengths of each body,
 static SHAPES: [Shape; 49] = [
-    Shape { construct: Some(Construct::Unit), length: 2, head: 1, group: 1 },
-    Shape { construct: Some(Construct::Empty), length: 1, head: 0, group: 0 },
-    Shape { construct: Some(Construct::Compound), length: 2, head: 1, group: 1 },
-    Shape { construct: Some(Construct::Assignment), length: 4, head: 3, group: 0 },
-    Shape { construct: Some(Construct::Increment), length: 2, head: 1, group: 0 },
-    Shape { construct: Some(Construct::Decrement), length: 2, head: 1, group: 0 },
-    Shape { construct: Some(Construct::If), length: 3, head: 1, group: 2 },
-    Shape { construct: Some(Construct::Switch), length: 3, head: 2, group: 2 },
-    Shape { construct: Some(Construct::Loop), length: 3, head: 2, group: 0 },
-    Shape { construct: Some(Construct::For), length: 5, head: 4, group: 0 },
-    Shape { construct: Some(Construct::While), length: 3, head: 2, group: 0 },
-    Shape { construct: Some(Construct::Break), length: 1, head: 0, group: 0 },
-    Shape { construct: Some(Construct::Continue), length: 1, head: 0, group: 0 },
-    Shape { construct: Some(Construct::Return), length: 2, head: 1, group: 0 },
-    Shape { construct: Some(Construct::Discard), length: 1, head: 0, group: 0 },
-    Shape { construct: Some(Construct::CallStatement), length: 2, head: 1, group: 0 },
-    Shape { construct: Some(Construct::ConstAssert), length: 2, head: 1, group: 0 },
-    Shape { construct: Some(Construct::Declaration), length: 5, head: 4, group: 0 },
-    Shape { construct: Some(Construct::Continuing), length: 3, head: 2, group: 0 },
-    Shape { construct: None, length: 0, head: 0, group: 0 },
-    Shape { construct: None, length: 0, head: 0, group: 0 },
-    Shape { construct: None, length: 0, head: 0, group: 0 },
-    Shape { construct: None, length: 0, head: 0, group: 0 },
-    Shape { construct: None, length: 0, head: 0, group: 0 },
-    Shape { construct: None, length: 0, head: 0, group: 0 },
-    Shape { construct: None, length: 0, head: 0, group: 0 },
-    Shape { construct: None, length: 0, head: 0, group: 0 },
-    Shape { construct: None, length: 0, head: 0, group: 0 },
-    Shape { construct: None, length: 0, head: 0, group: 0 },
-    Shape { construct: None, length: 0, head: 0, group: 0 },
-    Shape { construct: None, length: 0, head: 0, group: 0 },
-    Shape { construct: None, length: 0, head: 0, group: 0 },
-    Shape { construct: Some(Construct::Literal), length: 6, head: 5, group: 0 },
-    Shape { construct: Some(Construct::Parenthesized), length: 2, head: 1, group: 0 },
-    Shape { construct: Some(Construct::Unary), length: 3, head: 2, group: 0 },
-    Shape { construct: Some(Construct::Binary), length: 4, head: 3, group: 0 },
-    Shape { construct: Some(Construct::Name), length: 2, head: 1, group: 0 },
-    Shape { construct: Some(Construct::Call), length: 3, head: 2, group: 1 },
-    Shape { construct: None, length: 0, head: 0, group: 0 },
-    Shape { construct: None, length: 0, head: 0, group: 0 },
-    Shape { construct: None, length: 0, head: 0, group: 0 },
-    Shape { construct: None, length: 0, head: 0, group: 0 },
-    Shape { construct: None, length: 0, head: 0, group: 0 },
-    Shape { construct: None, length: 0, head: 0, group: 0 },
-    Shape { construct: None, length: 0, head: 0, group: 0 },
-    Shape { construct: None, length: 0, head: 0, group: 0 },
-    Shape { construct: None, length: 0, head: 0, group: 0 },
-    Shape { construct: None, length: 0, head: 0, group: 0 },
-    Shape { construct: Some(Construct::Function), length: 6, head: 5, group: 2 },
+    Shape {
+        construct: Some(Construct::Unit),
+        length: 2,
+        head: 1,
+        group: 1,
+    },
+    Shape {
+        construct: Some(Construct::Empty),
+        length: 1,
+        head: 0,
+        group: 0,
+    },
+    Shape {
+        construct: Some(Construct::Compound),
+        length: 2,
+        head: 1,
+        group: 1,
+    },
+    Shape {
+        construct: Some(Construct::Assignment),
+        length: 4,
+        head: 3,
+        group: 0,
+    },
+    Shape {
+        construct: Some(Construct::Increment),
+        length: 2,
+        head: 1,
+        group: 0,
+    },
+    Shape {
+        construct: Some(Construct::Decrement),
+        length: 2,
+        head: 1,
+        group: 0,
+    },
+    Shape {
+        construct: Some(Construct::If),
+        length: 3,
+        head: 1,
+        group: 2,
+    },
+    Shape {
+        construct: Some(Construct::Switch),
+        length: 3,
+        head: 2,
+        group: 2,
+    },
+    Shape {
+        construct: Some(Construct::Loop),
+        length: 3,
+        head: 2,
+        group: 0,
+    },
+    Shape {
+        construct: Some(Construct::For),
+        length: 5,
+        head: 4,
+        group: 0,
+    },
+    Shape {
+        construct: Some(Construct::While),
+        length: 3,
+        head: 2,
+        group: 0,
+    },
+    Shape {
+        construct: Some(Construct::Break),
+        length: 1,
+        head: 0,
+        group: 0,
+    },
+    Shape {
+        construct: Some(Construct::Continue),
+        length: 1,
+        head: 0,
+        group: 0,
+    },
+    Shape {
+        construct: Some(Construct::Return),
+        length: 2,
+        head: 1,
+        group: 0,
+    },
+    Shape {
+        construct: Some(Construct::Discard),
+        length: 1,
+        head: 0,
+        group: 0,
+    },
+    Shape {
+        construct: Some(Construct::CallStatement),
+        length: 2,
+        head: 1,
+        group: 0,
+    },
+    Shape {
+        construct: Some(Construct::ConstAssert),
+        length: 2,
+        head: 1,
+        group: 0,
+    },
+    Shape {
+        construct: Some(Construct::Declaration),
+        length: 5,
+        head: 4,
+        group: 0,
+    },
+    Shape {
+        construct: Some(Construct::Continuing),
+        length: 3,
+        head: 2,
+        group: 0,
+    },
+    Shape {
+        construct: None,
+        length: 0,
+        head: 0,
+        group: 0,
+    },
+    Shape {
+        construct: None,
+        length: 0,
+        head: 0,
+        group: 0,
+    },
+    Shape {
+        construct: None,
+        length: 0,
+        head: 0,
+        group: 0,
+    },
+    Shape {
+        construct: None,
+        length: 0,
+        head: 0,
+        group: 0,
+    },
+    Shape {
+        construct: None,
+        length: 0,
+        head: 0,
+        group: 0,
+    },
+    Shape {
+        construct: None,
+        length: 0,
+        head: 0,
+        group: 0,
+    },
+    Shape {
+        construct: None,
+        length: 0,
+        head: 0,
+        group: 0,
+    },
+    Shape {
+        construct: None,
+        length: 0,
+        head: 0,
+        group: 0,
+    },
+    Shape {
+        construct: None,
+        length: 0,
+        head: 0,
+        group: 0,
+    },
+    Shape {
+        construct: None,
+        length: 0,
+        head: 0,
+        group: 0,
+    },
+    Shape {
+        construct: None,
+        length: 0,
+        head: 0,
+        group: 0,
+    },
+    Shape {
+        construct: None,
+        length: 0,
+        head: 0,
+        group: 0,
+    },
+    Shape {
+        construct: None,
+        length: 0,
+        head: 0,
+        group: 0,
+    },
+    Shape {
+        construct: Some(Construct::Literal),
+        length: 6,
+        head: 5,
+        group: 0,
+    },
+    Shape {
+        construct: Some(Construct::Parenthesized),
+        length: 2,
+        head: 1,
+        group: 0,
+    },
+    Shape {
+        construct: Some(Construct::Unary),
+        length: 3,
+        head: 2,
+        group: 0,
+    },
+    Shape {
+        construct: Some(Construct::Binary),
+        length: 4,
+        head: 3,
+        group: 0,
+    },
+    Shape {
+        construct: Some(Construct::Name),
+        length: 2,
+        head: 1,
+        group: 0,
+    },
+    Shape {
+        construct: Some(Construct::Call),
+        length: 3,
+        head: 2,
+        group: 1,
+    },
+    Shape {
+        construct: None,
+        length: 0,
+        head: 0,
+        group: 0,
+    },
+    Shape {
+        construct: None,
+        length: 0,
+        head: 0,
+        group: 0,
+    },
+    Shape {
+        construct: None,
+        length: 0,
+        head: 0,
+        group: 0,
+    },
+    Shape {
+        construct: None,
+        length: 0,
+        head: 0,
+        group: 0,
+    },
+    Shape {
+        construct: None,
+        length: 0,
+        head: 0,
+        group: 0,
+    },
+    Shape {
+        construct: None,
+        length: 0,
+        head: 0,
+        group: 0,
+    },
+    Shape {
+        construct: None,
+        length: 0,
+        head: 0,
+        group: 0,
+    },
+    Shape {
+        construct: None,
+        length: 0,
+        head: 0,
+        group: 0,
+    },
+    Shape {
+        construct: None,
+        length: 0,
+        head: 0,
+        group: 0,
+    },
+    Shape {
+        construct: None,
+        length: 0,
+        head: 0,
+        group: 0,
+    },
+    Shape {
+        construct: Some(Construct::Function),
+        length: 6,
+        head: 5,
+        group: 2,
+    },
 ];
 
 // and the kind of each field: of the head, then of a group, then of the tail.
 static FIELDS: [[Field; 7]; 49] = [
-    [COUNT, Field::Child(Child::Member), Field::Absent, Field::Absent, Field::Absent, Field::Absent, Field::Absent],
-    [Field::Absent, Field::Absent, Field::Absent, Field::Absent, Field::Absent, Field::Absent, Field::Absent],
-    [COUNT, Field::Child(Child::Statement), Field::Absent, Field::Absent, Field::Absent, Field::Absent, Field::Absent],
-    [ASSIGNMENT_OPERATOR, Field::Child(Child::Expression), Field::Child(Child::Expression), Field::Absent, Field::Absent, Field::Absent, Field::Absent],
-    [Field::Child(Child::Expression), Field::Absent, Field::Absent, Field::Absent, Field::Absent, Field::Absent, Field::Absent],
-    [Field::Child(Child::Expression), Field::Absent, Field::Absent, Field::Absent, Field::Absent, Field::Absent, Field::Absent],
-    [IF_COUNT, Field::Child(Child::Expression), Field::Child(Child::Body), Field::Optional(Child::Body), Field::Absent, Field::Absent, Field::Absent],
-    [Field::Child(Child::Expression), COUNT, Field::Optional(Child::Expression), Field::Child(Child::Body), Field::Absent, Field::Absent, Field::Absent],
-    [Field::Child(Child::Body), Field::Optional(Child::Continuing), Field::Absent, Field::Absent, Field::Absent, Field::Absent, Field::Absent],
-    [Field::Optional(Child::Initializer), Field::Optional(Child::Expression), Field::Optional(Child::Update), Field::Child(Child::Body), Field::Absent, Field::Absent, Field::Absent],
-    [Field::Child(Child::Expression), Field::Child(Child::Body), Field::Absent, Field::Absent, Field::Absent, Field::Absent, Field::Absent],
-    [Field::Absent, Field::Absent, Field::Absent, Field::Absent, Field::Absent, Field::Absent, Field::Absent],
-    [Field::Absent, Field::Absent, Field::Absent, Field::Absent, Field::Absent, Field::Absent, Field::Absent],
-    [Field::Optional(Child::Expression), Field::Absent, Field::Absent, Field::Absent, Field::Absent, Field::Absent, Field::Absent],
-    [Field::Absent, Field::Absent, Field::Absent, Field::Absent, Field::Absent, Field::Absent, Field::Absent],
-    [Field::Child(Child::Call), Field::Absent, Field::Absent, Field::Absent, Field::Absent, Field::Absent, Field::Absent],
-    [Field::Child(Child::Expression), Field::Absent, Field::Absent, Field::Absent, Field::Absent, Field::Absent, Field::Absent],
-    [DECLARATION_KIND, NAME, TYPE, Field::Optional(Child::Expression), Field::Absent, Field::Absent, Field::Absent],
-    [Field::Child(Child::Body), Field::Optional(Child::Expression), Field::Absent, Field::Absent, Field::Absent, Field::Absent, Field::Absent],
+    [
+        COUNT,
+        Field::Child(Child::Member),
+        Field::Absent,
+        Field::Absent,
+        Field::Absent,
+        Field::Absent,
+        Field::Absent,
+    ],
+    [
+        Field::Absent,
+        Field::Absent,
+        Field::Absent,
+        Field::Absent,
+        Field::Absent,
+        Field::Absent,
+        Field::Absent,
+    ],
+    [
+        COUNT,
+        Field::Child(Child::Statement),
+        Field::Absent,
+        Field::Absent,
+        Field::Absent,
+        Field::Absent,
+        Field::Absent,
+    ],
+    [
+        ASSIGNMENT_OPERATOR,
+        Field::Child(Child::Expression),
+        Field::Child(Child::Expression),
+        Field::Absent,
+        Field::Absent,
+        Field::Absent,
+        Field::Absent,
+    ],
+    [
+        Field::Child(Child::Expression),
+        Field::Absent,
+        Field::Absent,
+        Field::Absent,
+        Field::Absent,
+        Field::Absent,
+        Field::Absent,
+    ],
+    [
+        Field::Child(Child::Expression),
+        Field::Absent,
+        Field::Absent,
+        Field::Absent,
+        Field::Absent,
+        Field::Absent,
+        Field::Absent,
+    ],
+    [
+        IF_COUNT,
+        Field::Child(Child::Expression),
+        Field::Child(Child::Body),
+        Field::Optional(Child::Body),
+        Field::Absent,
+        Field::Absent,
+        Field::Absent,
+    ],
+    [
+        Field::Child(Child::Expression),
+        COUNT,
+        Field::Optional(Child::Expression),
+        Field::Child(Child::Body),
+        Field::Absent,
+        Field::Absent,
+        Field::Absent,
+    ],
+    [
+        Field::Child(Child::Body),
+        Field::Optional(Child::Continuing),
+        Field::Absent,
+        Field::Absent,
+        Field::Absent,
+        Field::Absent,
+        Field::Absent,
+    ],
+    [
+        Field::Optional(Child::Initializer),
+        Field::Optional(Child::Expression),
+        Field::Optional(Child::Update),
+        Field::Child(Child::Body),
+        Field::Absent,
+        Field::Absent,
+        Field::Absent,
+    ],
+    [
+        Field::Child(Child::Expression),
+        Field::Child(Child::Body),
+        Field::Absent,
+        Field::Absent,
+        Field::Absent,
+        Field::Absent,
+        Field::Absent,
+    ],
+    [
+        Field::Absent,
+        Field::Absent,
+        Field::Absent,
+        Field::Absent,
+        Field::Absent,
+        Field::Absent,
+        Field::Absent,
+    ],
+    [
+        Field::Absent,
+        Field::Absent,
+        Field::Absent,
+        Field::Absent,
+        Field::Absent,
+        Field::Absent,
+        Field::Absent,
+    ],
+    [
+        Field::Optional(Child::Expression),
+        Field::Absent,
+        Field::Absent,
+        Field::Absent,
+        Field::Absent,
+        Field::Absent,
+        Field::Absent,
+    ],
+    [
+        Field::Absent,
+        Field::Absent,
+        Field::Absent,
+        Field::Absent,
+        Field::Absent,
+        Field::Absent,
+        Field::Absent,
+    ],
+    [
+        Field::Child(Child::Call),
+        Field::Absent,
+        Field::Absent,
+        Field::Absent,
+        Field::Absent,
+        Field::Absent,
+        Field::Absent,
+    ],
+    [
+        Field::Child(Child::Expression),
+        Field::Absent,
+        Field::Absent,
+        Field::Absent,
+        Field::Absent,
+        Field::Absent,
+        Field::Absent,
+    ],
+    [
+        DECLARATION_KIND,
+        NAME,
+        TYPE,
+        Field::Optional(Child::Expression),
+        Field::Absent,
+        Field::Absent,
+        Field::Absent,
+    ],
+    [
+        Field::Child(Child::Body),
+        Field::Optional(Child::Expression),
+        Field::Absent,
+        Field::Absent,
+        Field::Absent,
+        Field::Absent,
+        Field::Absent,
+    ],
     [Field::Absent; 7],
     [Field::Absent; 7],
     [Field::Absent; 7],
@@ -171,11 +591,51 @@ static FIELDS: [[Field; 7]; 49] = [
     [Field::Absent; 7],
     [Field::Absent; 7],
     [WORD, WORD, WORD, WORD, WORD, Field::Absent, Field::Absent],
-    [Field::Child(Child::Expression), Field::Absent, Field::Absent, Field::Absent, Field::Absent, Field::Absent, Field::Absent],
-    [UNARY_OPERATOR, Field::Child(Child::Expression), Field::Absent, Field::Absent, Field::Absent, Field::Absent, Field::Absent],
-    [BINARY_OPERATOR, Field::Child(Child::Expression), Field::Child(Child::Expression), Field::Absent, Field::Absent, Field::Absent, Field::Absent],
-    [NAME, Field::Absent, Field::Absent, Field::Absent, Field::Absent, Field::Absent, Field::Absent],
-    [NAME, ARGUMENT_COUNT, Field::Child(Child::Expression), Field::Absent, Field::Absent, Field::Absent, Field::Absent],
+    [
+        Field::Child(Child::Expression),
+        Field::Absent,
+        Field::Absent,
+        Field::Absent,
+        Field::Absent,
+        Field::Absent,
+        Field::Absent,
+    ],
+    [
+        UNARY_OPERATOR,
+        Field::Child(Child::Expression),
+        Field::Absent,
+        Field::Absent,
+        Field::Absent,
+        Field::Absent,
+        Field::Absent,
+    ],
+    [
+        BINARY_OPERATOR,
+        Field::Child(Child::Expression),
+        Field::Child(Child::Expression),
+        Field::Absent,
+        Field::Absent,
+        Field::Absent,
+        Field::Absent,
+    ],
+    [
+        NAME,
+        Field::Absent,
+        Field::Absent,
+        Field::Absent,
+        Field::Absent,
+        Field::Absent,
+        Field::Absent,
+    ],
+    [
+        NAME,
+        ARGUMENT_COUNT,
+        Field::Child(Child::Expression),
+        Field::Absent,
+        Field::Absent,
+        Field::Absent,
+        Field::Absent,
+    ],
     [Field::Absent; 7],
     [Field::Absent; 7],
     [Field::Absent; 7],
@@ -186,7 +646,15 @@ static FIELDS: [[Field; 7]; 49] = [
     [Field::Absent; 7],
     [Field::Absent; 7],
     [Field::Absent; 7],
-    [NAME, FLAGS, TYPE, Field::Child(Child::Body), ARGUMENT_COUNT, NAME, PARAMETER_TYPE],
+    [
+        NAME,
+        FLAGS,
+        TYPE,
+        Field::Child(Child::Body),
+        ARGUMENT_COUNT,
+        NAME,
+        PARAMETER_TYPE,
+    ],
 ];
 
 // The lengths of a tag's body.
@@ -196,7 +664,12 @@ pub fn shape_of(tag: u16) -> Shape
     if tag < 49 {
         SHAPES[tag as usize]
     } else {
-        Shape { construct: None, length: 0, head: 0, group: 0 }
+        Shape {
+            construct: None,
+            length: 0,
+            head: 0,
+            group: 0,
+        }
     }
 }
 
@@ -204,7 +677,11 @@ pub fn shape_of(tag: u16) -> Shape
 pub fn field_of(tag: u16, i: usize) -> Field
     ensures { λ r. ⌜ r ≡ getD (fieldsOf (constructOf tag)) i Absent ⌝ }
 {
-    if tag < 49 && i < 7 { FIELDS[tag as usize][i] } else { Field::Absent }
+    if tag < 49 && i < 7 {
+        FIELDS[tag as usize][i]
+    } else {
+        Field::Absent
+    }
 }
 
 impl Field {

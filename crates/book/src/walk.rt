@@ -7,6 +7,7 @@ ghost use Rattle.std.specs.Options.{isSome};
 ghost use Rattle.book.specs.Layout.{bodyPasses, construct, end, field, groups, groupsFrom, groupsPass, runPasses, shape};
 ghost use Rattle.book.specs.Verdict.{childFits, isChild, test};
 use crate::shape::Child;
+use crate::shape::Construct;
 use crate::shape::Field;
 use crate::shape::Shape;
 use crate::shape::field_of;
@@ -27,10 +28,17 @@ pub(crate) fn word(words: &[u16], at: usize) -> u16
 }
 
 // The lengths of the body at `p`.
-pub(crate) fn shape_at(words: &[u16], p: usize) -> Shape
+fn shape_at(words: &[u16], p: usize) -> Shape
     ensures { λ r. ⌜ r ≡ shape (now (words .entry)) p ⌝ }
 {
     shape_of(word(words, p))
+}
+
+// The construct of the body at `p`, none for an unknown tag.
+pub(crate) fn construct_at(words: &[u16], p: usize) -> Option<Construct>
+    ensures { λ r. ⌜ r ≡ construct (now (words .entry)) p ⌝ }
+{
+    shape_at(words, p).construct
 }
 
 // The i-th field of the body at `p`, of which a group is counted once.
@@ -47,7 +55,11 @@ fn groups_of(words: &[u16], p: usize) -> usize
     ensures bound { λ r. ⌜ r ≤ 65535 ⌝ }
 {
     let shape = shape_at(words, p);
-    if shape.group == 0 { 0 } else { word(words, p + shape.head as usize) as usize }
+    if shape.group == 0 {
+        0
+    } else {
+        word(words, p + shape.head as usize) as usize
+    }
 }
 
 // Where the body at `p` ends.
@@ -63,7 +75,9 @@ pub(crate) fn end_of(words: &[u16], p: usize) -> usize
 fn is_child(words: &[u16], e: usize, child: Child, w: u16) -> bool
     ensures { λ r. ⌜ r ≡ isChild (now (words .entry)) e child w ⌝ }
 {
-    e < w as usize && w < word(words, 0) && child.takes(word(words, word(words, w as usize + 1) as usize))
+    e < w as usize
+        && w < word(words, 0)
+        && child.takes(word(words, word(words, w as usize + 1) as usize))
 }
 
 fn child_fits(words: &[u16], e: usize, field: Field, w: u16) -> bool
@@ -92,7 +106,13 @@ fn run_passes(pass: Pass, words: &[u16], e: usize, p: usize, i: usize, q: usize,
     ensures { λ r. ⌜ r ≡ runPasses (test pass (now (words .entry)) e) (now (words .entry)) p i q n ⌝ }
 {
     for k in 0..n {
-        if !passes(pass, words, e, field_at(words, p, i + k), word(words, q + k)) {
+        if !passes(
+            pass,
+            words,
+            e,
+            field_at(words, p, i + k),
+            word(words, q + k),
+        ) {
             return false;
         }
     }
@@ -137,5 +157,13 @@ pub(crate) fn body_passes(pass: Pass, words: &[u16], e: usize, p: usize) -> bool
     if !groups_pass(pass, words, e, p) {
         return false;
     }
-    run_passes(pass, words, e, p, head + group, end_of(words, p) - tail, tail)
+    run_passes(
+        pass,
+        words,
+        e,
+        p,
+        head + group,
+        end_of(words, p) - tail,
+        tail,
+    )
 }

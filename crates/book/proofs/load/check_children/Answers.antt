@@ -14,10 +14,10 @@ body-passes-requires c κs =
     let l = laid (c .args .words .now) (c .loop-e .e) (c .pre .laid (c .loop-e .e) (omega (arith, c .word-n .ensures))) in
     let s = sizes (c .args .words .now) (c .pre .sized) in
     let at = c .word-at .ensures in
-    record
-    { place = omega arith
-    ; known = rw at (l .named)
-    ; within = omega (arith, ap (end (c .args .words .now)) at, l .whole, s .short)
+    record {
+      place = omega arith;
+      known = rw at (l .named);
+      within = omega (arith, ap (end (c .args .words .now)) at, l .whole, s .short);
     }
 
 pub returns-then-not-body-passes : need.returns-then-not-body-passes

@@ -24,10 +24,10 @@ pub check-children-requires : need.check-children-requires
 check-children-requires c κs =
     let ws = c .args .words .now in
     let none = answer-ok (orElse (first (layoutFault ws) 0 (entries ws)) (leftOver ws)) (sym (c .in-Continue-lay-out .was tt) ∙ c .lay-out .ensures) in
-    record
-    { sized = sym (c .is-sized .ensures) ∙ c .if-not-is-sized .left
-    ; laid =
-        λ e h. first-each (layoutFault ws) (entries ws) 0 e (neither (first (layoutFault ws) 0 (entries ws)) (leftOver ws) none .0) (omega arith) (omega arith)
+    record {
+      sized = sym (c .is-sized .ensures) ∙ c .if-not-is-sized .left;
+      laid =
+          λ e h. first-each (layoutFault ws) (entries ws) 0 e (neither (first (layoutFault ws) 0 (entries ws)) (leftOver ws) none .0) (omega arith) (omega arith);
     }
 
 pub returns : need.returns

@@ -13,4 +13,4 @@ pub returns-else-tag-lt49 : need.returns-else-tag-lt49
 returns-else-tag-lt49 c =
     sym
     (⊎-elim (λ h. field-past (c .args .tag) (c .args .i) (h .1)) (λ h. field-unknown (c .args .tag) (c .args .i) h)
-      (c .else-tag-lt49 .either))
+    (c .else-tag-lt49 .either))

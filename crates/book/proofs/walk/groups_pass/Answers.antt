@@ -36,10 +36,10 @@ add-q-in-loop-k c =
 
 pub loop-k-again : need.loop-k-again
 loop-k-again c =
-    let r = group-room (test (c .args .pass) (c .args .words .now) (c .args .e)) (c .args .words .now) (c .args .p) (c .loop-k .q) (c .groups-of-n .result) (c .loop-k .-k) _ (c .shape-at-shape .ensures) (omega arith) in
-    ( omega (arith, c .loop-k .inv .0)
-    , group-more (test (c .args .pass) (c .args .words .now) (c .args .e)) (c .args .words .now) (c .args .p) (c .loop-k .q) (c .groups-of-n .result) (c .loop-k .-k) _ (c .shape-at-shape .ensures) (omega arith) (sym (c .run-passes .ensures) ∙ c .if-not-run-passes .left)
-      ∙ c .loop-k .inv .1
+    let r = group-room (test (c .args .pass) (c .args .words .now) (c .args .e)) (c .args .words .now) (c .args .p) (c .loop-k .q) (c .groups-of-n .result) (c .loop-k .-k) _ (c .shape-at-shape .ensures) (omega arith) in (
+      omega (arith, c .loop-k .inv .0),
+      group-more (test (c .args .pass) (c .args .words .now) (c .args .e)) (c .args .words .now) (c .args .p) (c .loop-k .q) (c .groups-of-n .result) (c .loop-k .-k) _ (c .shape-at-shape .ensures) (omega arith) (sym (c .run-passes .ensures) ∙ c .if-not-run-passes .left)
+          ∙ c .loop-k .inv .1,
     )
 
 pub returns : need.returns

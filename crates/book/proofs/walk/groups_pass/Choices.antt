@@ -8,4 +8,4 @@ abbrev pub Inv-loop-k : given.InvT-loop-k
 Inv-loop-k l =
     (l .q + l .group * (l .n - l .-k) ≤ 65535)
     × (groupsPass (test (l .pass) (l .words) (l .e)) (l .words) (l .p) (l .q) (l .n - l .-k)
-        ≡ groupsPass (test (l .pass) (l .words) (l .e)) (l .words) (l .p) (groupsFrom (l .words) (l .p)) (groups (l .words) (l .p)))
+    ≡ groupsPass (test (l .pass) (l .words) (l .e)) (l .words) (l .p) (groupsFrom (l .words) (l .p)) (groups (l .words) (l .p)))

@@ -17,18 +17,18 @@ returns-in-Break-judge c =
     let e : c .from-residual .result ≡ Err (c .in-Break-judge .field-0 .0) = p .1 ∙ ap Err (p .2) in
     let v : c .from-residual .result ≡ verdict ws = e ∙ sym (c .in-Break-judge .was tt) ∙ c .judge .ensures in
     let bad : isOk (c .from-residual .result) ≡ false = ap isOk e in
-    record
-    { verdict = v
-    ; accepted = ((λ h. absurd (true≢false (sym h ∙ bad))), (λ w. ap isOk (v ∙ ap answer (formed ws w))))
-    ; words = sym (cond-false (isOk (c .from-residual .result)) _ _ bad)
+    record {
+      verdict = v;
+      accepted = ((λ h. absurd (true≢false (sym h ∙ bad))), (λ w. ap isOk (v ∙ ap answer (formed ws w))));
+      words = sym (cond-false (isOk (c .from-residual .result)) _ _ bad);
     }
 
 pub returns : need.returns
 returns c =
     let ws = c .args .words .now in
     let v = sym (c .in-Continue-judge .was tt) ∙ c .judge .ensures in
-    record
-    { verdict = v
-    ; accepted = ((λ h. well-formed ws (answer-ok (refusal ws) v)), (λ w. refl))
-    ; words = refl
+    record {
+      verdict = v;
+      accepted = ((λ h. well-formed ws (answer-ok (refusal ws) v)), (λ w. refl));
+      words = refl;
     }

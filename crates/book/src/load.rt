@@ -84,8 +84,8 @@ fn check_children(words: &[u16]) -> Result<(), BookError>
     requires laid { ⌜ ((e : ℕ) → e < entries (now words) → layoutFault (now words) e ≡ None) ⌝ }
     ensures { λ r. ⌜ r ≡ answer (first (childFault (now (words .entry))) 0 (entries (now (words .entry)))) ⌝ }
 {
-    let n = word(words, 0);
-    for e in 0..n {
+    let count = word(words, 0);
+    for e in 0..count {
         let at = word(words, e as usize + 1) as usize;
         if !body_passes(Pass::Children, words, e as usize, at) {
             return Err(BookError {

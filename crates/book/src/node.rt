@@ -3,7 +3,6 @@ ghost use mathlib.Core.Bool.{true};
 ghost use mathlib.Core.Path.{_≡_};
 ghost use Prim.Native.Nat.{_≤_};
 ghost use lib.Dec.{ltb};
-ghost use lib.ListN.{length};
 ghost use Rattle.std.specs.Options.{isSome};
 ghost use Rattle.std.specs.shelf.Maps.{nth};
 ghost use Rattle.book.specs.Layout.{entries};
@@ -360,20 +359,6 @@ fn node_of(construct: Construct, ws: &[u16], p: usize) -> Option<Node>
 }
 
 impl<'a> Book<'a> {
-    // How many entries the book has.
-    pub fn entries(&self) -> u16
-        ensures { λ r. ⌜ r ≡ entries (now (now (self .entry) .words)) ⌝ }
-    {
-        word(self.words, 0)
-    }
-
-    // How many words the book has.
-    pub fn length(&self) -> usize
-        ensures { λ r. ⌜ r ≡ length (now (now (self .entry) .words)) ⌝ }
-    {
-        self.words.len()
-    }
-
     // What an entry says; none exactly if the book has no such entry.
     pub fn node(&self, entry: u16) -> Option<Node>
         ensures value { λ r. ⌜ r ≡ nodeAt (now (now (self .entry) .words)) entry ⌝ }

@@ -6,4 +6,4 @@ use Rattle.book.proofs.load.check_children.Given as given
 
 abbrev pub Inv-loop-e : given.InvT-loop-e
 Inv-loop-e l =
-    first (childFault (l .words)) (l .e) (l .n - l .e) ≡ first (childFault (l .words)) 0 (entries (l .words))
+    first (childFault (l .words)) (l .e) (l .count - l .e) ≡ first (childFault (l .words)) 0 (entries (l .words))

@@ -12,10 +12,10 @@ use Rattle.std.specs.Options.{isSome}
 use Rattle.std.specs.declared.option.Option.{Option}
 use Rattle.std.specs.declared.option.Option.the-variants.{Some, None}
 use Rattle.book.specs.Layout.{bodyPasses, construct, end, field, groups, groupsFrom, groupsPass, runPasses, shape, tailFrom}
-use Rattle.book.specs.Shapes.{shapeOf}
-use Rattle.book.specs.declared.shape.Construct.{Construct}
-use Rattle.book.specs.declared.shape.Field.{Field}
-use Rattle.book.specs.declared.shape.Shape.{Shape}
+use Rattle.shape.specs.Shapes.{shapeOf}
+use Rattle.shape.specs.declared.Construct.{Construct}
+use Rattle.shape.specs.declared.Field.{Field}
+use Rattle.shape.specs.declared.Shape.{Shape}
 
 -- A shape tells its construct
 pub construct-of-shape : (o : Option Construct) → shapeOf o .construct ≡ o

@@ -1,4 +1,3 @@
-pub mod Table
 pub mod Bodies
 pub mod Refusals
 pub mod Accepted

@@ -17,16 +17,16 @@ use Rattle.std.proofs.shelf.Tests.{and-parts, cases-eq, cases-lt, cond-both, co
 use Rattle.syntax.specs.Numbers.{binaryOperators, declarationKinds, shortCircuits, unaryOperators}
 use Rattle.book.specs.Layout.{construct, entries, field, place, shape}
 use Rattle.book.specs.Nodes.{assignmentNode, binaryNode, declarationNode, decode, listed, nodeAt, nodeOf, paired, twos, unaryNode}
-use Rattle.book.specs.Shapes.{fieldsOf, fits, shapeOf}
+use Rattle.shape.specs.Shapes.{fieldsOf, fits, shapeOf}
 use Rattle.book.specs.WellFormed.{EachField, WellFormed}
 use Rattle.book.specs.declared.node.Items.{Items}
 use Rattle.book.specs.declared.node.Node.{Node}
 use Rattle.book.specs.declared.node.Node.the-variants as N
 use Rattle.book.specs.declared.node.Pairs.{Pairs}
-use Rattle.book.specs.declared.shape.Construct.{Construct}
-use Rattle.book.specs.declared.shape.Construct.the-variants.{Unit as UnitEntry, Empty, Compound, Assignment, Increment, Decrement, If, Switch, Loop, For, While, Break, Continue, Return, Discard, CallStatement, ConstAssert, Declaration, Continuing, Literal, Parenthesized, Unary, Binary, Name, Call, Function}
-use Rattle.book.specs.declared.shape.Field.{Field}
-use Rattle.book.specs.declared.shape.Field.the-variants as F
+use Rattle.shape.specs.declared.Construct.{Construct}
+use Rattle.shape.specs.declared.Construct.the-variants.{Unit as UnitEntry, Empty, Compound, Assignment, Increment, Decrement, If, Switch, Loop, For, While, Break, Continue, Return, Discard, CallStatement, ConstAssert, Declaration, Continuing, Literal, Parenthesized, Unary, Binary, Name, Call, Function}
+use Rattle.shape.specs.declared.Field.{Field}
+use Rattle.shape.specs.declared.Field.the-variants as F
 
 -- The n words from s on
 module _ (ws : List ℕ) (s n : ℕ) where

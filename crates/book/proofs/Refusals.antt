@@ -15,13 +15,13 @@ use Rattle.std.specs.declared.result.Result.{Result}
 use Rattle.std.specs.declared.result.Result.the-variants.{Ok, Err}
 use Rattle.std.proofs.shelf.Tests.{and-from, and-parts, cases-eq, cond-false, cond-true, eq-eqb, eqb-true, le-leb, le-ltb, leb-false, leb-true, lt-leb, lt-ltb, ltb-false, ne-eqb, not-false, not-from-false, not-from-true, or-from, or-left, or-parts, or-right}
 use Rattle.book.specs.Layout.{bodyPasses, construct, end, entries, place, shape, start}
-use Rattle.book.specs.Shapes.{fits, shapeOf}
+use Rattle.shape.specs.Shapes.{fits, shapeOf}
 use Rattle.book.specs.Verdict.{answer, at, childFault, childFits, first, layoutFault, leftOver, misplaced, orElse, refusal, sized}
 use Rattle.book.specs.declared.error.BookError.{BookError}
 use Rattle.book.specs.declared.error.BookFault.{BookFault}
 use Rattle.book.specs.declared.error.BookFault.the-variants.{BadField, BadLength, BadPlace, WrongChild}
-use Rattle.book.specs.declared.shape.Construct.{Construct}
-use Rattle.book.specs.declared.shape.Shape.{Shape}
+use Rattle.shape.specs.declared.Construct.{Construct}
+use Rattle.shape.specs.declared.Shape.{Shape}
 
 -- The body of entry e, which has to stand at q
 module _ (ws : List ℕ) (e q : ℕ) (starts : q ≡ start ws e) where

@@ -5,11 +5,11 @@ use Prim.Native.Nat.{ℕ, zero, suc, _+_, _-_, _*_}
 use lib.Dec.{eqb}
 use lib.ListN.{getD}
 use Rattle.std.specs.declared.option.Option.{Option}
-use Rattle.book.specs.Shapes.{constructOf, fieldsOf, shapeOf}
-use Rattle.book.specs.declared.shape.Construct.{Construct}
-use Rattle.book.specs.declared.shape.Field.{Field}
-use Rattle.book.specs.declared.shape.Field.the-variants.{Absent}
-use Rattle.book.specs.declared.shape.Shape.{Shape}
+use Rattle.shape.specs.Shapes.{constructOf, fieldsOf, shapeOf}
+use Rattle.shape.specs.declared.Construct.{Construct}
+use Rattle.shape.specs.declared.Field.{Field}
+use Rattle.shape.specs.declared.Field.the-variants.{Absent}
+use Rattle.shape.specs.declared.Shape.{Shape}
 
 -- How many entries the book has
 abbrev pub entries : List ℕ → ℕ

@@ -1,4 +1,3 @@
-pub mod Shapes
 pub mod Layout
 pub mod Verdict
 pub mod WellFormed

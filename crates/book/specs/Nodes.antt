@@ -14,8 +14,8 @@ use Rattle.book.specs.declared.node.Items.{Items}
 use Rattle.book.specs.declared.node.Node.{Node}
 use Rattle.book.specs.declared.node.Node.the-variants as N
 use Rattle.book.specs.declared.node.Pairs.{Pairs}
-use Rattle.book.specs.declared.shape.Construct.{Construct}
-use Rattle.book.specs.declared.shape.Construct.the-variants.{Unit as UnitEntry, Empty, Compound, Assignment, Increment, Decrement, If, Switch, Loop, For, While, Break, Continue, Return, Discard, CallStatement, ConstAssert, Declaration, Continuing, Literal, Parenthesized, Unary, Binary, Name, Call, Function}
+use Rattle.shape.specs.declared.Construct.{Construct}
+use Rattle.shape.specs.declared.Construct.the-variants.{Unit as UnitEntry, Empty, Compound, Assignment, Increment, Decrement, If, Switch, Loop, For, While, Break, Continue, Return, Discard, CallStatement, ConstAssert, Declaration, Continuing, Literal, Parenthesized, Unary, Binary, Name, Call, Function}
 
 -- A child that may be absent, and a type that may be
 abbrev pub optional : ℕ → Option ℕ

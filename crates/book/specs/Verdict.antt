@@ -10,15 +10,15 @@ use Rattle.std.specs.declared.option.Option.the-variants.{Some, None}
 use Rattle.std.specs.declared.result.Result.{Result}
 use Rattle.std.specs.declared.result.Result.the-variants.{Ok, Err}
 use Rattle.book.specs.Layout.{bodyPasses, construct, end, entries, place, start}
-use Rattle.book.specs.Shapes.{fits, takes}
+use Rattle.shape.specs.Shapes.{fits, takes}
 use Rattle.book.specs.declared.error.BookError.{BookError}
 use Rattle.book.specs.declared.error.BookFault.{BookFault}
 use Rattle.book.specs.declared.error.BookFault.the-variants.{BadField, BadLength, BadPlace, WrongChild}
-use Rattle.book.specs.declared.shape.Child.{Child}
+use Rattle.shape.specs.declared.Child.{Child}
 use Rattle.book.specs.declared.walk.Pass.{Pass}
 use Rattle.book.specs.declared.walk.Pass.the-variants.{Children, Fields}
-use Rattle.book.specs.declared.shape.Field.{Field}
-use Rattle.book.specs.declared.shape.Field.the-variants as F
+use Rattle.shape.specs.declared.Field.{Field}
+use Rattle.shape.specs.declared.Field.the-variants as F
 
 -- The number of each refusal
 abbrev pub numberOf : BookFault → ℕ

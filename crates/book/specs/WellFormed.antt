@@ -6,9 +6,9 @@ use Prim.Native.Nat.{ℕ, _+_, _-_, _*_, _≤_, _<_}
 use lib.ListN.{length, getD}
 use Rattle.std.specs.Options.{isSome}
 use Rattle.book.specs.Layout.{construct, end, entries, field, groups, groupsFrom, place, shape, start, tail, tailFrom}
-use Rattle.book.specs.Shapes.{fits}
+use Rattle.shape.specs.Shapes.{fits}
 use Rattle.book.specs.Verdict.{childFits, misplaced}
-use Rattle.book.specs.declared.shape.Field.{Field}
+use Rattle.shape.specs.declared.Field.{Field}
 
 -- P of every field of the body at p and its word
 pub record EachField (P : Field → ℕ → Type 0) (ws : List ℕ) (p : ℕ) : Type 0 where

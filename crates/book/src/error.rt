@@ -2,7 +2,7 @@
 ghost use mathlib.Core.Path.{_≡_};
 ghost use Rattle.book.specs.Verdict.{numberOf};
 
-#[derive(Clone, Copy, PartialEq, Eq, Debug)]
+#[derive(Clone, Copy)]
 pub enum BookFault {
     BadLength,
     BadPlace,
@@ -11,7 +11,7 @@ pub enum BookFault {
 }
 
 // A refusal, and the entry at which it arose.
-#[derive(Clone, Copy, PartialEq, Eq, Debug)]
+#[derive(Clone, Copy)]
 pub struct BookError {
     pub fault: BookFault,
     pub entry: u16,

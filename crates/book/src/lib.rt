@@ -3,5 +3,4 @@ pub mod book;
 pub mod error;
 pub mod load;
 pub mod node;
-pub mod shape;
 pub mod walk;

@@ -6,12 +6,12 @@ ghost use lib.ListN.{getD};
 ghost use Rattle.std.specs.Options.{isSome};
 ghost use Rattle.book.specs.Layout.{bodyPasses, construct, end, field, groups, groupsFrom, groupsPass, runPasses, shape};
 ghost use Rattle.book.specs.Verdict.{childFits, isChild, test};
-use crate::shape::Child;
-use crate::shape::Construct;
-use crate::shape::Field;
-use crate::shape::Shape;
-use crate::shape::field_of;
-use crate::shape::shape_of;
+use shape::Child;
+use shape::Construct;
+use shape::Field;
+use shape::Shape;
+use shape::field_of;
+use shape::shape_of;
 
 // What a pass over the bodies tests: whether the words fit their fields, or whether the children are right.
 #[derive(Clone, Copy)]

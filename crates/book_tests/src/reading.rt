@@ -4,7 +4,6 @@ use book::node::Node;
 use book::node::Pairs;
 use std::test::*;
 use syntax::BinaryOperator;
-use syntax::BinaryOperatorPartialEq;
 
 #[test]
 fn an_if_with_two_clauses_and_an_else() -> Result<(), Fail> {
@@ -35,7 +34,7 @@ fn operators_and_short_circuits() -> Result<(), Fail> {
                 right,
             },
         ) => {
-            check(operator == BinaryOperator::GreaterThanEqual)?;
+            check(matches!(operator, BinaryOperator::GreaterThanEqual))?;
             check_eq((left, right), (2, 2))?;
         }
         _ => return Err(Fail::new("no binary expression")),

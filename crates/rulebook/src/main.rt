@@ -28,7 +28,13 @@ fn read_some(file: &mut File, bytes: &mut Vec<u8>) -> Result<usize, AnyError> {
 
 // The bytes of a file, as far as they can matter.
 fn read_file(rt: &LibcRuntime, path: &str) -> Result<Vec<u8>, AnyError> {
-    let mut file = fs::open(rt, path)?;
+    let mut file = match fs::open(rt, path) {
+        Ok(file) => file,
+        Err(error) => {
+            let message = format!(rt.alloc(), "{path}: {error}")?;
+            return Err(message.into());
+        }
+    };
     let mut bytes = Vec::new(rt.alloc());
     for _ in 0..ENOUGH {
         if read_some(&mut file, &mut bytes)? == 0 || bytes.len() > ENOUGH {

@@ -6,7 +6,7 @@ ghost use Rattle.syntax.specs.Numbers.{unaryOperators, binaryOperators, shortC
 ghost use Rattle.syntax.specs.Symbols.{unarySymbol, binarySymbol, shortCircuitSymbol, kindWord};
 
 // An operator before its operand.
-#[derive(Clone, Copy, PartialEq, Eq, Debug)]
+#[derive(Clone, Copy)]
 pub enum UnaryOperator {
     Negation,
     LogicalNegation,
@@ -14,7 +14,7 @@ pub enum UnaryOperator {
 }
 
 // An operator between two operands, both of which are evaluated.
-#[derive(Clone, Copy, PartialEq, Eq, Debug)]
+#[derive(Clone, Copy)]
 pub enum BinaryOperator {
     Addition,
     Subtraction,
@@ -33,13 +33,13 @@ pub enum BinaryOperator {
 }
 
 // An operator whose right operand is evaluated only if it is needed.
-#[derive(Clone, Copy, PartialEq, Eq, Debug)]
+#[derive(Clone, Copy)]
 pub enum ShortCircuit {
     And,
     Or,
 }
 
-#[derive(Clone, Copy, PartialEq, Eq, Debug)]
+#[derive(Clone, Copy)]
 pub enum DeclarationKind {
     Const,
     Let,

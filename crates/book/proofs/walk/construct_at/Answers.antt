@@ -1,6 +1,6 @@
 use mathlib.Core.Path.{ap, _∙_}
 use Rattle.book.specs.Layout.{construct}
-use Rattle.book.specs.declared.shape.Shape.{Shape}
+use Rattle.shape.specs.declared.Shape.{Shape}
 use Rattle.book.proofs.Bodies.{construct-of-shape}
 use Rattle.book.proofs.walk.construct_at.Needs as need
 

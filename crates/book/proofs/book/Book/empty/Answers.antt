@@ -1,6 +1,6 @@
 use mathlib.Core.Path.{refl}
 use Rattle.book.specs.Layout.{bodyPasses, end, groups, groupsPass, runPasses}
-use Rattle.book.specs.Shapes.{constructOf, fieldsOf, shapeOf}
+use Rattle.shape.specs.Shapes.{constructOf, fieldsOf, shapeOf}
 use Rattle.book.specs.Verdict.{childFault, first, layoutFault, refusal}
 use Rattle.book.proofs.book.Book.empty.Needs as need
 

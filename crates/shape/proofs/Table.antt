@@ -12,11 +12,11 @@ use Rattle.std.specs.declared.option.Option.{Option}
 use Rattle.std.specs.declared.option.Option.the-variants.{Some, None}
 use Rattle.std.proofs.shelf.Lists.{getD-map, getD-past}
 use Rattle.std.proofs.shelf.Tests.{and-parts, cases-lt, leb-true}
-use Rattle.book.specs.Shapes.{constructs, constructOf, fieldsOf, shapeOf}
-use Rattle.book.specs.declared.shape.Construct.{Construct}
-use Rattle.book.specs.declared.shape.Field.{Field}
-use Rattle.book.specs.declared.shape.Field.the-variants.{Absent}
-use Rattle.book.specs.declared.shape.Shape.{Shape}
+use Rattle.shape.specs.Shapes.{constructs, constructOf, fieldsOf, shapeOf}
+use Rattle.shape.specs.declared.Construct.{Construct}
+use Rattle.shape.specs.declared.Field.{Field}
+use Rattle.shape.specs.declared.Field.the-variants.{Absent}
+use Rattle.shape.specs.declared.Shape.{Shape}
 
 -- a test that passes at each element of a list passes at each place
 abbrev every : {X : Type 0} → (X → Bool) → List X → Bool

@@ -1,9 +1,9 @@
 use mathlib.Core.Path.{_≡_, refl, sym, ap}
 use mathlib.Core.Logic.{⊎-elim}
 use native.Mathlib.Omega.{arith}
-use Rattle.book.specs.Shapes.{fieldsOf}
-use Rattle.book.proofs.Table.{field-row, field-past, field-unknown}
-use Rattle.book.proofs.shape.field_of.Needs as need
+use Rattle.shape.specs.Shapes.{fieldsOf}
+use Rattle.shape.proofs.Table.{field-row, field-past, field-unknown}
+use Rattle.shape.proofs.field_of.Needs as need
 
 pub returns-then-i-lt7 : need.returns-then-i-lt7
 unfolding fieldsOf

@@ -7,13 +7,13 @@ use Rattle.std.specs.declared.option.Option.the-variants.{Some, None}
 use Prim.Native.Nat.{ℕ, zero, suc, _+_, _-_, _<_, _≤_}
 use lib.Dec.{eqb, leb}
 use lib.ListN.{length, getD, take, drop, replicate}
-use Rattle.book.specs.declared.shape.Child.{Child}
-use Rattle.book.specs.declared.shape.Child.the-variants as C
-use Rattle.book.specs.declared.shape.Construct.{Construct}
-use Rattle.book.specs.declared.shape.Construct.the-variants.{Unit as UnitEntry, Empty, Compound, Assignment, Increment, Decrement, If, Switch, Loop, For, While, Break, Continue, Return, Discard, CallStatement, ConstAssert, Declaration, Continuing, Literal, Parenthesized, Unary, Binary, Name, Call, Function}
-use Rattle.book.specs.declared.shape.Field.{Field}
-use Rattle.book.specs.declared.shape.Field.the-variants as F
-use Rattle.book.specs.declared.shape.Shape.{Shape}
+use Rattle.shape.specs.declared.Child.{Child}
+use Rattle.shape.specs.declared.Child.the-variants as C
+use Rattle.shape.specs.declared.Construct.{Construct}
+use Rattle.shape.specs.declared.Construct.the-variants.{Unit as UnitEntry, Empty, Compound, Assignment, Increment, Decrement, If, Switch, Loop, For, While, Break, Continue, Return, Discard, CallStatement, ConstAssert, Declaration, Continuing, Literal, Parenthesized, Unary, Binary, Name, Call, Function}
+use Rattle.shape.specs.declared.Field.{Field}
+use Rattle.shape.specs.declared.Field.the-variants as F
+use Rattle.shape.specs.declared.Shape.{Shape}
 
 -- The fields that are numbers, each with its least and its greatest
 abbrev pub word : Field

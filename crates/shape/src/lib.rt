@@ -1,8 +1,8 @@
 // What the body of each tag looks like: the one table by which bodies are walked and children are checked.
 ghost use mathlib.Core.Path.{_≡_};
 ghost use lib.ListN.{getD};
-ghost use Rattle.book.specs.declared.shape.Field.the-variants.{Absent};
-ghost use Rattle.book.specs.Shapes.{constructOf, fieldsOf, fits, shapeOf, takes};
+ghost use Rattle.shape.specs.declared.Field.the-variants.{Absent};
+ghost use Rattle.shape.specs.Shapes.{constructOf, fieldsOf, fits, shapeOf, takes};
 
 // What an entry says.
 #[derive(Clone, Copy)]

@@ -1,8 +1,8 @@
 use mathlib.Core.Path.{_≡_, refl, sym, ap}
 use native.Mathlib.Omega.{arith}
-use Rattle.book.specs.Shapes.{shapeOf}
-use Rattle.book.proofs.Table.{shape-row, past-unknown}
-use Rattle.book.proofs.shape.shape_of.Needs as need
+use Rattle.shape.specs.Shapes.{shapeOf}
+use Rattle.shape.proofs.Table.{shape-row, past-unknown}
+use Rattle.shape.proofs.shape_of.Needs as need
 
 pub returns-then-tag-lt49 : need.returns-then-tag-lt49
 unfolding shapeOf

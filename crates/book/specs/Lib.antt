@@ -2,3 +2,5 @@ pub mod Layout
 pub mod Verdict
 pub mod WellFormed
 pub mod Nodes
+pub mod Children
+pub mod Words

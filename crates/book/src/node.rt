@@ -5,6 +5,8 @@ ghost use Prim.Native.Nat.{_≤_};
 ghost use lib.Dec.{ltb};
 ghost use Rattle.std.specs.Options.{isSome};
 ghost use Rattle.std.specs.shelf.Maps.{nth};
+ghost use Rattle.std.specs.Slices.{found};
+ghost use Rattle.book.specs.Children.{Children};
 ghost use Rattle.book.specs.Layout.{entries};
 ghost use Rattle.book.specs.Nodes.{assignmentNode, binaryNode, declarationNode, forNode, functionNode, ifNode, listed, literalNode, nodeAt, nodeOf, optional, optionalType, paired, unaryNode};
 use crate::book::Book;
@@ -363,6 +365,7 @@ impl<'a> Book<'a> {
     pub fn node(&self, entry: u16) -> Option<Node>
         ensures value { λ r. ⌜ r ≡ nodeAt (now (now (self .entry) .words)) entry ⌝ }
         ensures every { λ r. ⌜ isSome r ≡ ltb entry (entries (now (now (self .entry) .words))) ⌝ }
+        ensures children { λ r. ⌜ found r (Children (now (now (self .entry) .words)) entry) ⌝ }
     {
         if entry >= self.entries() {
             return None;

@@ -1,10 +1,10 @@
 // Checks and shows rule books.
 mod listing;
-mod words;
 
 use book::book::Book;
 use book::error::BookError;
 use book::error::BookFault;
+use book::file::words_of;
 use std::env;
 use std::error::AnyError;
 use std::fs;
@@ -51,7 +51,7 @@ fn read_words(rt: &LibcRuntime, path: &str) -> Result<Vec<u16>, AnyError> {
         let message = format!(rt.alloc(), "{path}: an odd number of bytes")?;
         return Err(message.into());
     }
-    Ok(words::words_of(rt.alloc(), bytes.as_slice())?)
+    Ok(words_of(rt.alloc(), bytes.as_slice())?)
 }
 
 fn name_of(fault: BookFault) -> &'static str {

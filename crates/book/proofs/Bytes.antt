@@ -5,7 +5,7 @@ use Prim.Native.Nat.{ℕ, _+_, _*_, _≤_, _<_}
 use native.Mathlib.Omega.{arith}
 use lib.ListN.{length, getD, drop, length-drop}
 use Rattle.std.proofs.shelf.Lists.{drop-more}
-use Rattle.rulebook.specs.Words.{wordsOf}
+use Rattle.book.specs.Words.{wordsOf}
 
 pub word-more : (bs : List ℕ) (k : ℕ) → 2 * k + 1 < length bs → wordsOf (drop (2 * k) bs) ≡ (getD bs (2 * k) 0 + getD bs (2 * k + 1) 0 * 256) ∷ wordsOf (drop (2 * (k + 1)) bs)
 word-more bs k h =

@@ -6,9 +6,9 @@ use lib.ListN.{drop}
 use Rattle.std.proofs.Told.{chosen}
 use Rattle.std.specs.Of.Vec.{vec-items}
 use Rattle.std.specs.Results.{isOk}
-use Rattle.rulebook.specs.Words.{wordsOf}
-use Rattle.rulebook.proofs.Steps.{word-more, word-none}
-use Rattle.rulebook.proofs.words.words_of.Needs as need
+use Rattle.book.specs.Words.{wordsOf}
+use Rattle.book.proofs.Bytes.{word-more, word-none}
+use Rattle.book.proofs.file.words_of.Needs as need
 
 pub loop-k-again : need.loop-k-again
 loop-k-again c =

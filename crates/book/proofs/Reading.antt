@@ -161,3 +161,33 @@ module _ (ws : List ℕ) (e : ℕ) where
   every-entry w h =
       ap isSome (node-within h (place ws e) refl (construct ws (place ws e)) refl)
       ∙ every-node ws (place ws e) (w .fields e h) (construct ws (place ws e)) refl (w .tags e h)
+
+-- A list from its i-th element on
+suc-add-one : (i : ℕ) → suc i + 1 ≡ suc (i + 1)
+suc-add-one i = omega arith
+
+pub drop-some : {X : Type 0} (xs : List X) (i : ℕ) (x : X) → nth xs i ≡ Some x → drop i xs ≡ x ∷ drop (i + 1) xs
+drop-some [] i x h = let w : _≡_ {A = ℕ} 0 1 = cc in absurd (omega arith)
+drop-some (y ∷ xs) zero x h = let q : y ≡ x = cc in ap (λ z. z ∷ xs) q
+drop-some (y ∷ xs) (suc i) x h = drop-some xs i x h ∙ ap (λ k. x ∷ drop k (y ∷ xs)) (sym (suc-add-one i))
+
+pub drop-none : {X : Type 0} (xs : List X) (i : ℕ) → nth xs i ≡ None → drop i xs ≡ []
+drop-none [] zero h = refl
+drop-none [] (suc i) h = refl
+drop-none (y ∷ xs) zero h = let w : _≡_ {A = ℕ} 0 1 = cc in absurd (omega arith)
+drop-none (y ∷ xs) (suc i) h = drop-none xs i h
+
+-- No list is longer than its span says
+pub listed-length : (ws : List ℕ) (s : Items) → length (listed ws s) ≤ s .count
+listed-length ws s = let l = part-length ws (s .start) (s .count) in omega arith
+
+twos-length : (xs : List ℕ) → 2 * length (twos xs) ≤ length xs
+twos-length [] = omega arith
+twos-length (a ∷ []) = omega arith
+twos-length (a ∷ b ∷ xs) = let r = twos-length xs in omega arith
+
+pub paired-length : (ws : List ℕ) (s : Pairs) → length (paired ws s) ≤ s .count
+paired-length ws s =
+    let l = part-length ws (s .start) (2 * s .count) in
+    let t = twos-length (take (2 * s .count) (drop (s .start) ws)) in
+    omega arith

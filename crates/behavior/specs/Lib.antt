@@ -1,0 +1,4 @@
+pub mod Control
+pub mod Rules
+pub mod Below
+pub mod Summaries

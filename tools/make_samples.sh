@@ -1,6 +1,6 @@
 #!/bin/sh
 # Rebuilds every sample book in the program's data/, and the commands that the gate runs on them with the answers
-# of the two reference readers, refcheck.py and refshow.py, which share no code with the program.
+# of the reference readers refcheck.py, refshow.py and refbehavior.py, which share no code with the program.
 set -eu
 export PYTHONDONTWRITEBYTECODE=1
 tools=$(cd "$(dirname "$0")" && pwd)
@@ -29,3 +29,4 @@ ask() {
 }
 for book in *.book; do ask check "$book"; done
 for book in freight.book shapes.book smallest.book worked.book freight-cut.book; do ask show "$book"; done
+for book in freight.book missing-return.book shapes.book unfit.book worked.book freight-bad-tag.book; do ask behavior "$book"; done

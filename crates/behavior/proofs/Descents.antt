@@ -24,4 +24,4 @@ module _ {X : Type 0} (n : ℕ) (blank : X) (step : (ℕ → X) → ℕ → X) (
       let s : n - e ≡ suc (n - e - 1) = omega arith in
       ap (λ k. descend blank step k e) s
       ∙ local (descend blank step (n - e - 1)) (λ c. descend blank step (n - c) c) e h
-        (λ c k l. enough (n - e - 1) (n - c) c l (omega arith) (omega arith))
+      (λ c k l. enough (n - e - 1) (n - c) c l (omega arith) (omega arith))

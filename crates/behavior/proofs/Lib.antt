@@ -4,3 +4,4 @@ pub mod Openings
 pub mod Summed
 pub mod Defaults
 pub mod Walked
+pub mod Fitted

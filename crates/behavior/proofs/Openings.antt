@@ -78,7 +78,7 @@ module _ (ws : List ℕ) where
     least-local p f g e h k =
         ap (λ x. cond (p e) (Some e) x)
         (same-earliest f g None (childrenOf ws (control ws e))
-          (λ i c n. let a = child-follows ws e (control ws e) (control-follows e) i c n in k c (a .0) (a .1)))
+        (λ i c n. let a = child-follows ws e (control ws e) (control-follows e) i c n in k c (a .0) (a .1)))
 
     pub opened-least : (p : ℕ → Bool) (e : ℕ) → e < entries ws → least ws p e ≡ leastOf ws p (least ws p) e
     unfolding least

@@ -24,11 +24,11 @@ module _ (ws : List ℕ) where
   -- the folds of a list, part by part
   abbrev listed-parts : Summary → List ℕ → Summary
   listed-parts s cs =
-      record
-      { behavior = inTurn (behavior ws) (s .behavior) cs
-      ; bare = earliest (least ws (isBare ws)) (s .bare) cs
-      ; valued = earliest (least ws (isValued ws)) (s .valued) cs
-      ; leaving = earliest (least ws (isLeaving ws)) (s .leaving) cs
+      record {
+        behavior = inTurn (behavior ws) (s .behavior) cs;
+        bare = earliest (least ws (isBare ws)) (s .bare) cs;
+        valued = earliest (least ws (isValued ws)) (s .valued) cs;
+        leaving = earliest (least ws (isLeaving ws)) (s .leaving) cs;
       }
 
   list-folds : (cs : List ℕ) (s : Summary) → listFrom ws s cs ≡ listed-parts s cs
@@ -38,11 +38,11 @@ module _ (ws : List ℕ) where
 
   abbrev clause-parts : Summary → List (ℕ × ℕ) → Summary
   clause-parts s ps =
-      record
-      { behavior = joined (behavior ws) (s .behavior) ps
-      ; bare = earliest (least ws (isBare ws)) (s .bare) (seconds ps)
-      ; valued = earliest (least ws (isValued ws)) (s .valued) (seconds ps)
-      ; leaving = earliest (least ws (isLeaving ws)) (s .leaving) (seconds ps)
+      record {
+        behavior = joined (behavior ws) (s .behavior) ps;
+        bare = earliest (least ws (isBare ws)) (s .bare) (seconds ps);
+        valued = earliest (least ws (isValued ws)) (s .valued) (seconds ps);
+        leaving = earliest (least ws (isLeaving ws)) (s .leaving) (seconds ps);
       }
 
   clause-folds : (ps : List (ℕ × ℕ)) (s : Summary) → clausesFrom ws s ps ≡ clause-parts s ps
@@ -99,8 +99,8 @@ module _ (ws : List ℕ) where
     of-function n t b is = at-control (Function n t b) is
 
     pub of-switch : (s : Pairs) → Switch s ≡ control ws e
-      → withSet (plusNext (turned (clausesFrom ws (bareSet none) (paired ws s) .behavior)) (not (hasDefault (paired ws s)))) (bareSet none) (clausesFrom ws (bareSet none) (paired ws s))
-      ≡ summary ws e
+        → withSet (plusNext (turned (clausesFrom ws (bareSet none) (paired ws s) .behavior)) (not (hasDefault (paired ws s)))) (bareSet none) (clausesFrom ws (bareSet none) (paired ws s))
+        ≡ summary ws e
     of-switch s is =
         ap (λ x. withSet (plusNext (turned (x .behavior)) (not (hasDefault (paired ws s)))) (bareSet none) x) (clause-folds (paired ws s) (bareSet none))
         ∙ at-control (Switch s) is
@@ -114,11 +114,11 @@ module _ (ws : List ℕ) where
     of-loop-continuing b c is = at-control (Loop b (Some c)) is
 
     pub of-return : (v : Bool) → Return v ≡ control ws e
-      → returnSummary e v ≡ summary ws e
+        → returnSummary e v ≡ summary ws e
     of-return true is = at-control (Return true) is
     of-return false is = at-control (Return false) is
 
     pub of-continuing : (b : ℕ) (x : Bool) → Continuing b x ≡ control ws e
-      → continuingSummary (summary ws b) e ≡ summary ws e
+        → continuingSummary (summary ws b) e ≡ summary ws e
     unfolding summary
     of-continuing b x is = at-control (Continuing b x) is

@@ -47,7 +47,7 @@ pub kept : (ws : List ℕ) (known : List (Option Summary)) (e : ℕ) (s : Summar
 kept ws known e s f h is k r q =
     ⊎-elim
     (λ same.
-        let a : getD (set known e (Some s)) k None ≡ Some s = ap (λ j. getD (set known e (Some s)) j None) same ∙ getD-set-same known e (Some s) None h in
-        let b : r ≡ s = cc in
-        b ∙ is ∙ ap (summary ws) (sym same))
+    let a : getD (set known e (Some s)) k None ≡ Some s = ap (λ j. getD (set known e (Some s)) j None) same ∙ getD-set-same known e (Some s) None h in
+    let b : r ≡ s = cc in
+    b ∙ is ∙ ap (summary ws) (sym same))
     (λ other. f k r (sym (getD-set-other known e k (Some s) None other) ∙ q)) (cases-eq k e)

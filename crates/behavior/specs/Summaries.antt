@@ -18,21 +18,21 @@ use Rattle.behavior.specs.declared.summary.Summary.{Summary}
 
 unfoldable pub summary : List ℕ → ℕ → Summary
 summary ws e =
-    record
-    { behavior = behavior ws e
-    ; bare = least ws (isBare ws) e
-    ; valued = least ws (isValued ws) e
-    ; leaving = least ws (isLeaving ws) e
+    record {
+      behavior = behavior ws e;
+      bare = least ws (isBare ws) e;
+      valued = least ws (isValued ws) e;
+      leaving = least ws (isLeaving ws) e;
     }
 
 -- That of an entry from its control, and the summaries of its children
 abbrev pub summaryOf : List ℕ → ℕ → Control → Summary
 summaryOf ws e t =
-    record
-    { behavior = behaviorOf ws (behavior ws) t
-    ; bare = cond (returning false t) (Some e) (earliest (least ws (isBare ws)) None (childrenOf ws t))
-    ; valued = cond (returning true t) (Some e) (earliest (least ws (isValued ws)) None (childrenOf ws t))
-    ; leaving = cond (leaving ws t) (Some e) (earliest (least ws (isLeaving ws)) None (childrenOf ws t))
+    record {
+      behavior = behaviorOf ws (behavior ws) t;
+      bare = cond (returning false t) (Some e) (earliest (least ws (isBare ws)) None (childrenOf ws t));
+      valued = cond (returning true t) (Some e) (earliest (least ws (isValued ws)) None (childrenOf ws t));
+      leaving = cond (leaving ws t) (Some e) (earliest (least ws (isLeaving ws)) None (childrenOf ws t));
     }
 
 -- Of a set with nothing below
@@ -42,11 +42,11 @@ bareSet s = record { behavior = s; bare = None; valued = None; leaving = None }
 -- The set given, and what is below either
 abbrev pub withSet : Behavior → Summary → Summary → Summary
 withSet s a b =
-    record
-    { behavior = s
-    ; bare = earlier (a .bare) (b .bare)
-    ; valued = earlier (a .valued) (b .valued)
-    ; leaving = earlier (a .leaving) (b .leaving)
+    record {
+      behavior = s;
+      bare = earlier (a .bare) (b .bare);
+      valued = earlier (a .valued) (b .valued);
+      leaving = earlier (a .leaving) (b .leaving);
     }
 
 -- A list from a summary so far on, and clauses likewise
@@ -67,21 +67,21 @@ Filled ws known = (k : ℕ) (s : Summary) → getD known k None ≡ Some s → s
 -- A return at an entry, with a value or without
 abbrev pub returnSummary : ℕ → Bool → Summary
 returnSummary e v =
-    record
-    { behavior = set false false false true
-    ; bare = cond v None (Some e)
-    ; valued = cond v (Some e) None
-    ; leaving = None
+    record {
+      behavior = set false false false true;
+      bare = cond v None (Some e);
+      valued = cond v (Some e) None;
+      leaving = None;
     }
 
 -- A continuing at an entry, from the summary of its body
 abbrev pub continuingSummary : Summary → ℕ → Summary
 continuingSummary s e =
-    record
-    { behavior = s .behavior
-    ; bare = s .bare
-    ; valued = s .valued
-    ; leaving = cond (beyondNext (s .behavior)) (Some e) (s .leaving)
+    record {
+      behavior = s .behavior;
+      bare = s .bare;
+      valued = s .valued;
+      leaving = cond (beyondNext (s .behavior)) (Some e) (s .leaving);
     }
 
 -- The children of a control come after the entry

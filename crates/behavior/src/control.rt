@@ -1,6 +1,7 @@
 // What of a node matters to the way it may end.
 ghost use mathlib.Core.Path.{_≡_};
 ghost use Rattle.behavior.specs.Control.{control, controlOf};
+ghost use Rattle.behavior.specs.Fit.{isStatement};
 ghost use Rattle.behavior.specs.Rules.{exits};
 use book::book::Book;
 use book::node::Items;
@@ -32,7 +33,7 @@ pub enum Control {
     Function(u16, bool, u16),
 }
 
-pub fn control_of(node: Option<Node>) -> Control
+fn control_of(node: Option<Node>) -> Control
     ensures { λ r. ⌜ r ≡ controlOf node ⌝ }
 {
     let Some(node) = node else {
@@ -43,8 +44,16 @@ pub fn control_of(node: Option<Node>) -> Control
         Node::If { clauses, otherwise } => Control::If(clauses, otherwise),
         Node::Switch { clauses, .. } => Control::Switch(clauses),
         Node::Loop { body, continuing } => Control::Loop(body, continuing),
-        Node::For { condition: Some(_), body, .. } => Control::While(body),
-        Node::For { condition: None, body, .. } => Control::Forever(body),
+        Node::For {
+            condition: Some(_),
+            body,
+            ..
+        } => Control::While(body),
+        Node::For {
+            condition: None,
+            body,
+            ..
+        } => Control::Forever(body),
         Node::While { body, .. } => Control::While(body),
         Node::Break => Control::Break,
         Node::Continue => Control::Continue,
@@ -72,12 +81,22 @@ pub fn control_at(book: &Book, entry: u16) -> Control
 
 impl Control {
     // Whether it is a continuing with a break-if.
-    pub fn exits(self) -> bool
+    pub(crate) fn exits(self) -> bool
         ensures { λ r. ⌜ r ≡ exits self ⌝ }
     {
         match self {
             Control::Continuing(_, exits) => exits,
             _ => false,
         }
+    }
+
+    // Whether it is that of a statement.
+    pub(crate) fn is_statement(self) -> bool
+        ensures { λ r. ⌜ r ≡ isStatement self ⌝ }
+    {
+        !matches!(
+            self,
+            Control::Other | Control::Continuing(..) | Control::Function(..)
+        )
     }
 }

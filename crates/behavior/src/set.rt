@@ -10,15 +10,44 @@ pub struct Behavior {
     pub returns: bool,
 }
 
-pub const NONE: Behavior = Behavior { next: false, breaks: false, continues: false, returns: false };
-pub const NEXT: Behavior = Behavior { next: true, breaks: false, continues: false, returns: false };
-pub const BREAK: Behavior = Behavior { next: false, breaks: true, continues: false, returns: false };
-pub const CONTINUE: Behavior = Behavior { next: false, breaks: false, continues: true, returns: false };
-pub const RETURN: Behavior = Behavior { next: false, breaks: false, continues: false, returns: true };
+pub const NONE: Behavior = Behavior {
+    next: false,
+    breaks: false,
+    continues: false,
+    returns: false,
+};
+
+pub(crate) const NEXT: Behavior = Behavior {
+    next: true,
+    breaks: false,
+    continues: false,
+    returns: false,
+};
+
+pub(crate) const BREAK: Behavior = Behavior {
+    next: false,
+    breaks: true,
+    continues: false,
+    returns: false,
+};
+
+pub(crate) const CONTINUE: Behavior = Behavior {
+    next: false,
+    breaks: false,
+    continues: true,
+    returns: false,
+};
+
+pub(crate) const RETURN: Behavior = Behavior {
+    next: false,
+    breaks: false,
+    continues: false,
+    returns: true,
+};
 
 impl Behavior {
     // What is in either set.
-    pub fn union(self, other: Behavior) -> Behavior
+    pub(crate) fn union(self, other: Behavior) -> Behavior
         ensures { λ r. ⌜ r ≡ union self other ⌝ }
     {
         Behavior {
@@ -30,7 +59,7 @@ impl Behavior {
     }
 
     // The set of a list so far, with the set of the statement that follows.
-    pub fn followed(self, by: Behavior) -> Behavior
+    pub(crate) fn followed(self, by: Behavior) -> Behavior
         ensures { λ r. ⌜ r ≡ followed self by ⌝ }
     {
         if self.next {
@@ -46,7 +75,7 @@ impl Behavior {
     }
 
     // With Next if asked.
-    pub fn plus_next(self, more: bool) -> Behavior
+    pub(crate) fn plus_next(self, more: bool) -> Behavior
         ensures { λ r. ⌜ r ≡ plusNext self more ⌝ }
     {
         Behavior {
@@ -58,7 +87,7 @@ impl Behavior {
     }
 
     // The bodies of a switch: Break turned to Next.
-    pub fn turned(self) -> Behavior
+    pub(crate) fn turned(self) -> Behavior
         ensures { λ r. ⌜ r ≡ turned self ⌝ }
     {
         Behavior {
@@ -70,21 +99,31 @@ impl Behavior {
     }
 
     // A loop of this body, which ends by Break, or by a break-if if there is one.
-    pub fn looped(self, exits: bool) -> Behavior
+    pub(crate) fn looped(self, exits: bool) -> Behavior
         ensures { λ r. ⌜ r ≡ looped self exits ⌝ }
     {
-        Behavior { next: self.breaks || exits, breaks: false, continues: false, returns: self.returns }
+        Behavior {
+            next: self.breaks || exits,
+            breaks: false,
+            continues: false,
+            returns: self.returns,
+        }
     }
 
     // A loop of this body under a condition.
-    pub fn tested(self) -> Behavior
+    pub(crate) fn tested(self) -> Behavior
         ensures { λ r. ⌜ r ≡ tested self ⌝ }
     {
-        Behavior { next: true, breaks: false, continues: false, returns: self.returns }
+        Behavior {
+            next: true,
+            breaks: false,
+            continues: false,
+            returns: self.returns,
+        }
     }
 
     // Whether there is more than Next.
-    pub fn beyond_next(self) -> bool
+    pub(crate) fn beyond_next(self) -> bool
         ensures { λ r. ⌜ r ≡ beyondNext self ⌝ }
     {
         self.breaks || self.continues || self.returns

@@ -46,7 +46,12 @@ impl Summary {
     fn of(behavior: Behavior) -> Summary
         ensures { λ r. ⌜ r ≡ bareSet behavior ⌝ }
     {
-        Summary { behavior, bare: None, valued: None, leaving: None }
+        Summary {
+            behavior,
+            bare: None,
+            valued: None,
+            leaving: None,
+        }
     }
 
     // The set given, and what is below either.
@@ -67,9 +72,19 @@ impl Summary {
     {
         let here = Some(entry);
         if value {
-            Summary { behavior: RETURN, bare: None, valued: here, leaving: None }
+            Summary {
+                behavior: RETURN,
+                bare: None,
+                valued: here,
+                leaving: None,
+            }
         } else {
-            Summary { behavior: RETURN, bare: here, valued: None, leaving: None }
+            Summary {
+                behavior: RETURN,
+                bare: here,
+                valued: None,
+                leaving: None,
+            }
         }
     }
 
@@ -77,7 +92,12 @@ impl Summary {
     fn turned_to(self, behavior: Behavior) -> Summary
         ensures { λ r. ⌜ r ≡ withSet behavior (bareSet none) self ⌝ }
     {
-        Summary { behavior, bare: self.bare, valued: self.valued, leaving: self.leaving }
+        Summary {
+            behavior,
+            bare: self.bare,
+            valued: self.valued,
+            leaving: self.leaving,
+        }
     }
 
     // A switch of these bodies.
@@ -106,7 +126,12 @@ impl Summary {
         ensures { λ r. ⌜ r ≡ continuingSummary self entry ⌝ }
     {
         if self.behavior.beyond_next() {
-            Summary { behavior: self.behavior, bare: self.bare, valued: self.valued, leaving: Some(entry) }
+            Summary {
+                behavior: self.behavior,
+                bare: self.bare,
+                valued: self.valued,
+                leaving: Some(entry),
+            }
         } else {
             self
         }
@@ -176,7 +201,10 @@ fn summarize(book: &Book, known: &mut [Option<Summary>], entry: u16) -> Summary
             Some(last) => {
                 let first = summary_of(book, known, body);
                 let second = summary_of(book, known, last);
-                first.with(second, first.behavior.looped(control_at(book, last).exits()))
+                first.with(
+                    second,
+                    first.behavior.looped(control_at(book, last).exits()),
+                )
             }
             None => summary_of(book, known, body).looped(),
         },

@@ -93,21 +93,21 @@ module _ (ws : List ℕ) (e : ℕ) where
   from-listed s n i c h =
       ⊎-elim
       (λ l.
-          ⊎-elim (λ k. let r = listed-at ws s n i l k in (l, cc)) (λ k. absurd (some-one (nth (listed ws (items s n)) i) c (listed-past ws s n i (inr k)) h))
-          (cases-lt (s + i) (length ws)))
+      ⊎-elim (λ k. let r = listed-at ws s n i l k in (l, cc)) (λ k. absurd (some-one (nth (listed ws (items s n)) i) c (listed-past ws s n i (inr k)) h))
+      (cases-lt (s + i) (length ws)))
       (λ l. absurd (some-one (nth (listed ws (items s n)) i) c (listed-past ws s n i (inl l)) h)) (cases-lt i n)
 
   from-paired : (s n i : ℕ) (q : ℕ × ℕ) → nth (paired ws (pairs s n)) i ≡ Some q → (i < n) × (q .0 ≡ getD ws (s + 2 * i) 0) × (q .1 ≡ getD ws (s + 2 * i + 1) 0)
   from-paired s n i q h =
       ⊎-elim
       (λ l.
-          ⊎-elim
-          (λ k.
-              let r = paired-at ws s n i l k in
-              let m : q ≡ (getD ws (s + 2 * i) 0, getD ws (s + 2 * i + 1) 0) = cc in
-              (l, ap (λ (x : ℕ × ℕ). x .0) m, ap (λ (x : ℕ × ℕ). x .1) m))
-          (λ k. absurd (some-one (nth (paired ws (pairs s n)) i) q (paired-past ws s n i (inr k)) h))
-          (cases-lt (s + 2 * i + 1) (length ws)))
+      ⊎-elim
+      (λ k.
+      let r = paired-at ws s n i l k in
+      let m : q ≡ (getD ws (s + 2 * i) 0, getD ws (s + 2 * i + 1) 0) = cc in
+      (l, ap (λ (x : ℕ × ℕ). x .0) m, ap (λ (x : ℕ × ℕ). x .1) m))
+      (λ k. absurd (some-one (nth (paired ws (pairs s n)) i) q (paired-past ws s n i (inr k)) h))
+      (cases-lt (s + 2 * i + 1) (length ws)))
       (λ l. absurd (some-one (nth (paired ws (pairs s n)) i) q (paired-past ws s n i (inl l)) h)) (cases-lt i n)
 
   found-mapped : {X : Type 0} (f : X → Node) (P : Node → Type 0) (o : Option X) → ((x : X) → P (f x)) → found (mapped f o) P
@@ -174,30 +174,30 @@ module _ (ws : List ℕ) (e : ℕ) where
         (λ z. found-mapped _ (Children ws e) (nth binaryOperators (getD ws (p + 1) 0 - 1)) (λ op. (l, r)))
     family (Some Increment) is = child-at Increment is 0 (p + 1) C.Expression (omega arith) (omega arith) refl
     family (Some Decrement) is = child-at Decrement is 0 (p + 1) C.Expression (omega arith) (omega arith) refl
-    family (Some If) is =
-        ( conditions-at If is 1 refl refl refl
-        , bodies-at If is 1 refl refl refl
-        , if-else If is refl
-        )
-    family (Some Switch) is =
-        ( child-at Switch is 0 (p + 1) C.Expression (omega arith) (omega arith) refl
-        , selectors-at Switch is 2 refl refl refl
-        , bodies-at Switch is 2 refl refl refl
-        )
-    family (Some Loop) is =
-        ( child-at Loop is 0 (p + 1) C.Body (omega arith) (omega arith) refl
-        , optional-at Loop is 1 (p + 2) C.Continuing (omega arith) (omega arith) refl
-        )
-    family (Some For) is =
-        ( optional-at For is 0 (p + 1) C.Initializer (omega arith) (omega arith) refl
-        , optional-at For is 1 (p + 2) C.Expression (omega arith) (omega arith) refl
-        , optional-at For is 2 (p + 3) C.Update (omega arith) (omega arith) refl
-        , child-at For is 3 (p + 4) C.Body (omega arith) (omega arith) refl
-        )
-    family (Some While) is =
-        ( child-at While is 0 (p + 1) C.Expression (omega arith) (omega arith) refl
-        , child-at While is 1 (p + 2) C.Body (omega arith) (omega arith) refl
-        )
+    family (Some If) is = (
+      conditions-at If is 1 refl refl refl,
+      bodies-at If is 1 refl refl refl,
+      if-else If is refl,
+    )
+    family (Some Switch) is = (
+      child-at Switch is 0 (p + 1) C.Expression (omega arith) (omega arith) refl,
+      selectors-at Switch is 2 refl refl refl,
+      bodies-at Switch is 2 refl refl refl,
+    )
+    family (Some Loop) is = (
+      child-at Loop is 0 (p + 1) C.Body (omega arith) (omega arith) refl,
+      optional-at Loop is 1 (p + 2) C.Continuing (omega arith) (omega arith) refl,
+    )
+    family (Some For) is = (
+      optional-at For is 0 (p + 1) C.Initializer (omega arith) (omega arith) refl,
+      optional-at For is 1 (p + 2) C.Expression (omega arith) (omega arith) refl,
+      optional-at For is 2 (p + 3) C.Update (omega arith) (omega arith) refl,
+      child-at For is 3 (p + 4) C.Body (omega arith) (omega arith) refl,
+    )
+    family (Some While) is = (
+      child-at While is 0 (p + 1) C.Expression (omega arith) (omega arith) refl,
+      child-at While is 1 (p + 2) C.Body (omega arith) (omega arith) refl,
+    )
     family (Some Break) is = tt
     family (Some Continue) is = tt
     family (Some Return) is = optional-at Return is 0 (p + 1) C.Expression (omega arith) (omega arith) refl
@@ -207,10 +207,10 @@ module _ (ws : List ℕ) (e : ℕ) where
     family (Some Declaration) is =
         found-mapped _ (Children ws e) (nth declarationKinds (getD ws (p + 1) 0))
         (λ k. optional-at Declaration is 3 (p + 4) C.Expression (omega arith) (omega arith) refl)
-    family (Some Continuing) is =
-        ( child-at Continuing is 0 (p + 1) C.Body (omega arith) (omega arith) refl
-        , optional-at Continuing is 1 (p + 2) C.Expression (omega arith) (omega arith) refl
-        )
+    family (Some Continuing) is = (
+      child-at Continuing is 0 (p + 1) C.Body (omega arith) (omega arith) refl,
+      optional-at Continuing is 1 (p + 2) C.Expression (omega arith) (omega arith) refl,
+    )
     family (Some Literal) is = tt
     family (Some Parenthesized) is = child-at Parenthesized is 0 (p + 1) C.Expression (omega arith) (omega arith) refl
     family (Some Unary) is =
@@ -230,7 +230,7 @@ module _ (ws : List ℕ) (e : ℕ) where
   children-of w =
       ⊎-elim
       (λ h.
-          subst (λ (o : Option Node). found o (Children ws e)) (sym (node-within ws e h (place ws e) refl (construct ws (place ws e)) refl))
-          (family (place ws e) (w .children e h) (construct ws (place ws e)) refl))
+      subst (λ (o : Option Node). found o (Children ws e)) (sym (node-within ws e h (place ws e) refl (construct ws (place ws e)) refl))
+      (family (place ws e) (w .children e h) (construct ws (place ws e)) refl))
       (λ h. subst (λ (o : Option Node). found o (Children ws e)) (sym (node-past ws e h)) tt)
       (cases-lt e (entries ws))

@@ -1,4 +1,6 @@
-// Runs of load and of the reader at the edges of each refusal.
+// Runs of load, of the reader and of the analysis at their edges.
+#[cfg(test)]
+mod behaving;
 #[cfg(test)]
 mod loading;
 #[cfg(test)]

@@ -1,5 +1,6 @@
-// Checks and shows rule books.
+// Checks and shows rule books, and says how their statements may end.
 mod listing;
+mod report;
 
 use book::book::Book;
 use book::error::BookError;
@@ -13,7 +14,7 @@ use std::io;
 use std::io::Read;
 
 const USAGE: &str =
-    "usage: rulebook check FILE, rulebook show FILE, or rulebook batch with such commands on standard input";
+    "usage: rulebook check FILE, show FILE or behavior FILE, or rulebook batch with such commands on standard input";
 
 // More bytes than the longest book has: what comes behind them makes no difference.
 const ENOUGH: usize = 131_076;
@@ -100,10 +101,23 @@ fn show(rt: &LibcRuntime, path: &str) -> Result<(), AnyError> {
     Ok(())
 }
 
+fn behavior(rt: &LibcRuntime, path: &str) -> Result<(), AnyError> {
+    let words = read_words(rt, path)?;
+    let mut book = Book::empty();
+    match book.load(words.as_slice()) {
+        Ok(()) => report::print_behaviors(rt, &book),
+        Err(error) => {
+            print_refusal(rt, error)?;
+            Ok(())
+        }
+    }
+}
+
 fn perform(rt: &LibcRuntime, command: &str, path: &str) -> Result<(), AnyError> {
     match command {
         "check" => check(rt, path),
         "show" => show(rt, path),
+        "behavior" => behavior(rt, path),
         _ => Err(USAGE.into()),
     }
 }

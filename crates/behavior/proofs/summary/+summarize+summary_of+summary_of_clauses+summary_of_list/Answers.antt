@@ -170,13 +170,13 @@ summarize-returns-in-Switch t c =
     let w = loaded ws (c .args .book .now .loaded) in
     let ps = paired ws (c .in-Switch .clauses) in
     let bodies : c .summary-of-clauses-bodies .result ≡ clausesFrom ws (bareSet none) ps = c .summary-of-clauses-bodies .ensures .value ∙ ap (λ x. clausesFrom ws x ps) (c .of-in-Switch .ensures) in
-    record
-    { value =
-        c .switched .ensures
-        ∙ ap (λ (x : Summary). withSet (plusNext (turned (x .behavior)) (not (c .has-default .result))) (bareSet none) x) bodies
-        ∙ ap (λ d. withSet (plusNext (turned (clausesFrom ws (bareSet none) ps .behavior)) (not d)) (bareSet none) (clausesFrom ws (bareSet none) ps)) (c .has-default .ensures)
-        ∙ of-switch ws w (c .args .entry) (c .pre .within) (c .in-Switch .clauses) (c .in-Switch .ensures tt)
-    ; filled = c .summary-of-clauses-bodies .ensures .filled
+    record {
+      value =
+          c .switched .ensures
+          ∙ ap (λ (x : Summary). withSet (plusNext (turned (x .behavior)) (not (c .has-default .result))) (bareSet none) x) bodies
+          ∙ ap (λ d. withSet (plusNext (turned (clausesFrom ws (bareSet none) ps .behavior)) (not d)) (bareSet none) (clausesFrom ws (bareSet none) ps)) (c .has-default .ensures)
+          ∙ of-switch ws w (c .args .entry) (c .pre .within) (c .in-Switch .clauses) (c .in-Switch .ensures tt);
+      filled = c .summary-of-clauses-bodies .ensures .filled;
     }
 
 pub summarize-returns-in-Some-continuing : need.summarize-returns-in-Some-continuing
@@ -187,13 +187,13 @@ summarize-returns-in-Some-continuing t c =
     let l = c .in-Some-continuing .last in
     let x : c .exits .result ≡ exitsBy ws (Some l) = c .exits .ensures ∙ ap exits (c .control-at-in-Some-continuing .ensures) in
     let s : c .looped .result ≡ looped (summary ws b .behavior) (exitsBy ws (Some l)) = c .looped .ensures ∙ ap (λ (y : Summary). looped (y .behavior) (c .exits .result)) (c .summary-of-first .ensures .value) ∙ ap (looped (summary ws b .behavior)) x in
-    record
-    { value =
-        c .with .ensures ∙ ap (λ y. withSet y (c .summary-of-first .result) (c .summary-of-second .result)) s
-        ∙ ap (λ y. withSet (looped (summary ws b .behavior) (exitsBy ws (Some l))) y (c .summary-of-second .result)) (c .summary-of-first .ensures .value)
-        ∙ ap (withSet (looped (summary ws b .behavior) (exitsBy ws (Some l))) (summary ws b)) (c .summary-of-second .ensures .value)
-        ∙ of-loop-continuing ws w (c .args .entry) (c .pre .within) b l (ap (Loop b) (sym (c .in-Some-continuing .is)) ∙ c .in-Loop .ensures tt)
-    ; filled = c .summary-of-second .ensures .filled
+    record {
+      value =
+          c .with .ensures ∙ ap (λ y. withSet y (c .summary-of-first .result) (c .summary-of-second .result)) s
+          ∙ ap (λ y. withSet (looped (summary ws b .behavior) (exitsBy ws (Some l))) y (c .summary-of-second .result)) (c .summary-of-first .ensures .value)
+          ∙ ap (withSet (looped (summary ws b .behavior) (exitsBy ws (Some l))) (summary ws b)) (c .summary-of-second .ensures .value)
+          ∙ of-loop-continuing ws w (c .args .entry) (c .pre .within) b l (ap (Loop b) (sym (c .in-Some-continuing .is)) ∙ c .in-Loop .ensures tt);
+      filled = c .summary-of-second .ensures .filled;
     }
 
 pub summarize-returns-in-None-continuing : need.summarize-returns-in-None-continuing
@@ -242,62 +242,62 @@ summary-of-returns-in-Some t c =
 
 pub summary-of-returns : need.summary-of-returns
 summary-of-returns t c =
-    record
-    { value = c .summarize-summary .ensures .value
-    ; filled =
-        kept (c .args .book .now .words .now) (c .summarize-summary .last .known) (c .args .entry) (c .summarize-summary .result)
-        (c .summarize-summary .ensures .filled) (omega (arith, c .pre .within, c .pre .room, c .summarize-summary .kept .known))
-        (c .summarize-summary .ensures .value)
+    record {
+      value = c .summarize-summary .ensures .value;
+      filled =
+          kept (c .args .book .now .words .now) (c .summarize-summary .last .known) (c .args .entry) (c .summarize-summary .result)
+          (c .summarize-summary .ensures .filled) (omega (arith, c .pre .within, c .pre .room, c .summarize-summary .kept .known))
+          (c .summarize-summary .ensures .value);
     }
 
 pub summary-of-list-returns-in-None : need.summary-of-list-returns-in-None
 summary-of-list-returns-in-None t c =
     let ws = c .args .book .now .words .now in
-    record
-    { value = list-none ws (c .loop-i .so-far) (listed ws (c .args .items)) (c .loop-i .i) (c .in-None .ensures tt) ∙ c .loop-i .inv .2
-    ; filled = c .loop-i .inv .1
+    record {
+      value = list-none ws (c .loop-i .so-far) (listed ws (c .args .items)) (c .loop-i .i) (c .in-None .ensures tt) ∙ c .loop-i .inv .2;
+      filled = c .loop-i .inv .1;
     }
 
 pub summary-of-list-loop-i-again : need.summary-of-list-loop-i-again
 summary-of-list-loop-i-again t c =
-    let ws = c .args .book .now .words .now in
-    ( omega (arith, c .loop-i .inv .0, c .summary-of-next .kept .known)
-    , c .summary-of-next .ensures .filled
-    , list-more ws (c .loop-i .so-far) (c .summary-of-next .result) (c .with-so-far .result) (c .followed .result) (listed ws (c .args .items)) (c .loop-i .i) (c .in-Some .child) (c .in-Some .ensures tt) (c .summary-of-next .ensures .value) (c .followed .ensures) (c .with-so-far .ensures)
-      ∙ c .loop-i .inv .2
+    let ws = c .args .book .now .words .now in (
+      omega (arith, c .loop-i .inv .0, c .summary-of-next .kept .known),
+      c .summary-of-next .ensures .filled,
+      list-more ws (c .loop-i .so-far) (c .summary-of-next .result) (c .with-so-far .result) (c .followed .result) (listed ws (c .args .items)) (c .loop-i .i) (c .in-Some .child) (c .in-Some .ensures tt) (c .summary-of-next .ensures .value) (c .followed .ensures) (c .with-so-far .ensures)
+          ∙ c .loop-i .inv .2,
     )
 
 pub summary-of-list-returns : need.summary-of-list-returns
 summary-of-list-returns t c =
     let ws = c .args .book .now .words .now in
     let l = listed-length ws (c .args .items) in
-    record
-    { value = list-end ws (c .loop-i .so-far) (listed ws (c .args .items)) (c .loop-i .i) (omega arith) ∙ c .loop-i .inv .2
-    ; filled = c .loop-i .inv .1
+    record {
+      value = list-end ws (c .loop-i .so-far) (listed ws (c .args .items)) (c .loop-i .i) (omega arith) ∙ c .loop-i .inv .2;
+      filled = c .loop-i .inv .1;
     }
 
 pub summary-of-clauses-returns-in-None : need.summary-of-clauses-returns-in-None
 summary-of-clauses-returns-in-None t c =
     let ws = c .args .book .now .words .now in
-    record
-    { value = clauses-none ws (c .loop-i .so-far) (paired ws (c .args .clauses)) (c .loop-i .i) (c .in-None .ensures tt) ∙ c .loop-i .inv .2
-    ; filled = c .loop-i .inv .1
+    record {
+      value = clauses-none ws (c .loop-i .so-far) (paired ws (c .args .clauses)) (c .loop-i .i) (c .in-None .ensures tt) ∙ c .loop-i .inv .2;
+      filled = c .loop-i .inv .1;
     }
 
 pub summary-of-clauses-loop-i-again : need.summary-of-clauses-loop-i-again
 summary-of-clauses-loop-i-again t c =
-    let ws = c .args .book .now .words .now in
-    ( omega (arith, c .loop-i .inv .0, c .summary-of-next .kept .known)
-    , c .summary-of-next .ensures .filled
-    , clauses-more ws (c .loop-i .so-far) (c .summary-of-next .result) (c .with-so-far .result) (c .union .result) (paired ws (c .args .clauses)) (c .loop-i .i) (c .in-Some .field-0-0, c .in-Some .body) (c .in-Some .ensures tt) (c .summary-of-next .ensures .value) (c .union .ensures) (c .with-so-far .ensures)
-      ∙ c .loop-i .inv .2
+    let ws = c .args .book .now .words .now in (
+      omega (arith, c .loop-i .inv .0, c .summary-of-next .kept .known),
+      c .summary-of-next .ensures .filled,
+      clauses-more ws (c .loop-i .so-far) (c .summary-of-next .result) (c .with-so-far .result) (c .union .result) (paired ws (c .args .clauses)) (c .loop-i .i) (c .in-Some .field-0-0, c .in-Some .body) (c .in-Some .ensures tt) (c .summary-of-next .ensures .value) (c .union .ensures) (c .with-so-far .ensures)
+          ∙ c .loop-i .inv .2,
     )
 
 pub summary-of-clauses-returns : need.summary-of-clauses-returns
 summary-of-clauses-returns t c =
     let ws = c .args .book .now .words .now in
     let l = paired-length ws (c .args .clauses) in
-    record
-    { value = clauses-end ws (c .loop-i .so-far) (paired ws (c .args .clauses)) (c .loop-i .i) (omega arith) ∙ c .loop-i .inv .2
-    ; filled = c .loop-i .inv .1
+    record {
+      value = clauses-end ws (c .loop-i .so-far) (paired ws (c .args .clauses)) (c .loop-i .i) (omega arith) ∙ c .loop-i .inv .2;
+      filled = c .loop-i .inv .1;
     }

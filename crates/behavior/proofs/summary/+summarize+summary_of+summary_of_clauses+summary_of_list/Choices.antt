@@ -24,10 +24,10 @@ abbrev pub Inv-summary-of-list-loop-i : given.InvT-summary-of-list-loop-i
 Inv-summary-of-list-loop-i l =
     (entries (l .book .words .now) ≤ length (l .known)) × Filled (l .book .words .now) (l .known)
     × (listFrom (l .book .words .now) (l .so-far) (drop (l .i) (listed (l .book .words .now) (l .items)))
-        ≡ listFrom (l .book .words .now) (bareSet onlyNext) (listed (l .book .words .now) (l .items)))
+    ≡ listFrom (l .book .words .now) (bareSet onlyNext) (listed (l .book .words .now) (l .items)))
 
 abbrev pub Inv-summary-of-clauses-loop-i : given.InvT-summary-of-clauses-loop-i
 Inv-summary-of-clauses-loop-i l =
     (entries (l .book .words .now) ≤ length (l .known)) × Filled (l .book .words .now) (l .known)
     × (clausesFrom (l .book .words .now) (l .so-far) (drop (l .i) (paired (l .book .words .now) (l .clauses)))
-        ≡ clausesFrom (l .book .words .now) (l .entry .so-far) (paired (l .book .words .now) (l .clauses)))
+    ≡ clausesFrom (l .book .words .now) (l .entry .so-far) (paired (l .book .words .now) (l .clauses)))

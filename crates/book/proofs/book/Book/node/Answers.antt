@@ -28,8 +28,8 @@ returns-then-entry-entries c =
     let n = c .entries .ensures in
     record {
       value = sym (node-past ws (c .args .entry) (omega arith));
-      every = sym (le-ltb (c .args .entry) (entries ws) (omega arith))
-    ; children = tt;
+      every = sym (le-ltb (c .args .entry) (entries ws) (omega arith));
+      children = tt;
     }
 
 pub returns-in-Break-construct : need.returns-in-Break-construct

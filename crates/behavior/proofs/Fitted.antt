@@ -10,13 +10,15 @@ use Rattle.std.specs.Options.{mapped}
 use Rattle.std.specs.declared.option.Option.{Option}
 use Rattle.std.specs.declared.option.Option.the-variants.{Some, None}
 use Rattle.std.specs.shelf.Maps.{nth}
-use Rattle.std.proofs.shelf.Tests.{cases-eq, cond-false, or-from, or-parts, true≢false}
+use Rattle.std.proofs.shelf.Tests.{cond-false, or-from, or-parts, true≢false}
+use Rattle.book.specs.First.{firstSome, orElse}
 use Rattle.book.specs.Layout.{entries}
 use Rattle.book.specs.WellFormed.{WellFormed}
+use Rattle.book.proofs.Firsts.{each-first, first-each, neither}
 use Rattle.book.proofs.Reading.{node-past}
 use Rattle.behavior.specs.Below.{Below, IsBelow, childrenOf, earlier, earliest, isBare, isLeaving, isValued, itself, least, leastOf, leaving, returning, through}
 use Rattle.behavior.specs.Control.{control, controlOf}
-use Rattle.behavior.specs.Fit.{Fit, FitFunction, behaviorAt, continuingFault, faultAt, faultOf, firstFault, functionFault, isStatement, orElse, unfit}
+use Rattle.behavior.specs.Fit.{Fit, FitFunction, behaviorAt, continuingFault, faultAt, faultOf, functionFault, isStatement, unfit}
 use Rattle.behavior.specs.Rules.{behavior, beyondNext}
 use Rattle.behavior.specs.Summaries.{After, Filled, summary}
 use Rattle.behavior.specs.declared.control.Control.{Control}
@@ -82,10 +84,6 @@ module _ (ws : List ℕ) (w : WellFormed ws) where
   unfit-not : (b : Bool) (u : Unfit) (o : Option Unfit) → cond b (Some u) o ≡ None → (b ≡ false) × (o ≡ None)
   unfit-not true u o h = let z : _≡_ {A = ℕ} 0 1 = cc in absurd (omega arith)
   unfit-not false u o h = (refl, h)
-
-  neither : (a b : Option Unfit) → orElse a b ≡ None → (a ≡ None) × (b ≡ None)
-  neither None b h = (refl, h)
-  neither (Some x) b h = let z : _≡_ {A = ℕ} 0 1 = cc in absurd (omega arith)
 
   unmapped : (f : ℕ → Unfit) (o : Option ℕ) → mapped f o ≡ None → o ≡ None
   unmapped f None h = refl
@@ -167,48 +165,17 @@ module _ (ws : List ℕ) (w : WellFormed ws) where
   fault-free f e h Continue is = refl
   fault-free f e h (Return v) is = refl
 
-  -- the first fault
-  pub first-more : (e n : ℕ) → e < n → faultAt ws e ≡ None → firstFault ws (e + 1) (n - (e + 1)) ≡ firstFault ws e (n - e)
-  unfolding firstFault
-  first-more e n h none =
-      let i : n - e ≡ suc (n - (e + 1)) = omega arith in
-      sym (ap (firstFault ws e) i ∙ ap (λ o. orElse o (firstFault ws (e + 1) (n - (e + 1)))) none)
-
-  pub first-hit : (e n : ℕ) (u : Unfit) → e < n → faultAt ws e ≡ Some u → firstFault ws e (n - e) ≡ Some u
-  unfolding firstFault
-  first-hit e n u h some =
-      let i : n - e ≡ suc (n - (e + 1)) = omega arith in
-      ap (firstFault ws e) i ∙ ap (λ o. orElse o (firstFault ws (e + 1) (n - (e + 1)))) some
-
-  pub first-none : (e n : ℕ) → n ≤ e → firstFault ws e (n - e) ≡ None
-  unfolding firstFault
-  first-none e n h = let i : n - e ≡ 0 = omega arith in ap (firstFault ws e) i
-
-  first-each : (n e k : ℕ) → firstFault ws e n ≡ None → e ≤ k → k < e + n → faultAt ws k ≡ None
-  unfolding firstFault
-  first-each zero e k h a b = absurd (omega arith)
-  first-each (suc n) e k h a b =
-      let r = neither (faultAt ws e) (firstFault ws (e + 1) n) h in
-      ⊎-elim (λ same. ap (faultAt ws) same ∙ r .0) (λ other. first-each n (e + 1) k (r .1) (omega arith) (omega arith)) (cases-eq k e)
-
-  each-first : (n e : ℕ) → ((k : ℕ) → e ≤ k → k < e + n → faultAt ws k ≡ None) → firstFault ws e n ≡ None
-  unfolding firstFault
-  each-first zero e h = refl
-  each-first (suc n) e h =
-      ap (λ o. orElse o (firstFault ws (e + 1) n)) (h e (omega arith) (omega arith))
-      ∙ each-first n (e + 1) (λ k a b. h k (omega arith) (omega arith))
-
-  pub fit-book : firstFault ws 0 (entries ws) ≡ None → Fit ws
+  pub fit-book : firstSome (faultAt ws) 0 (entries ws) ≡ None → Fit ws
   unfolding summary
   fit-book n =
-      let each : (e : ℕ) → e < entries ws → faultAt ws e ≡ None = λ e h. first-each (entries ws) 0 e n (omega arith) (omega arith) in
+      let each : (e : ℕ) → e < entries ws → faultAt ws e ≡ None = λ e h. first-each (faultAt ws) (entries ws) 0 e n (omega arith) (omega arith) in
       record {
         continuings = λ e b x h is. unfit-not (beyondNext (behavior ws b)) (unfit e LeavingContinuing e) None (sym (ap (faultOf ws e) is) ∙ each e h) .0;
         functions = λ e m t b h is. fit-function e t b (after-function e m t b is) (sym (ap (faultOf ws e) is) ∙ each e h);
       }
 
-  pub book-fit : Fit ws → firstFault ws 0 (entries ws) ≡ None
-  book-fit f = each-first (entries ws) 0 (λ k a b. fault-free f k (omega arith) (control ws k) refl)
+  pub book-fit : Fit ws → firstSome (faultAt ws) 0 (entries ws) ≡ None
+  book-fit f = each-first (faultAt ws) (entries ws) 0 (λ k a b. fault-free f k (omega arith) (control ws k) refl)
 
 -- a table that knows nothing
 pub blank : (ws : List ℕ) (n : ℕ) → Filled ws (replicate n None)

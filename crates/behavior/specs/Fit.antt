@@ -2,12 +2,13 @@
 use mathlib.Core.Path.{_≡_}
 use mathlib.Core.Bool.{Bool, true, false, cond, not, _&&_, _||_}
 use mathlib.Core.List.{List}
-use Prim.Native.Nat.{ℕ, zero, suc, _+_, _<_}
+use Prim.Native.Nat.{ℕ, _<_}
 use Rattle.std.specs.Options.{mapped}
 use Rattle.std.specs.declared.option.Option.{Option}
 use Rattle.std.specs.declared.option.Option.the-variants.{Some, None}
 use Rattle.std.specs.declared.result.Result.{Result}
 use Rattle.std.specs.declared.result.Result.the-variants.{Ok, Err}
+use Rattle.book.specs.First.{firstSome, orElse}
 use Rattle.book.specs.Layout.{entries}
 use Rattle.behavior.specs.Below.{Below, returning}
 use Rattle.behavior.specs.Control.{control}
@@ -40,10 +41,6 @@ pub record Fit (ws : List ℕ) : Type 0 where
 abbrev pub unfit : ℕ → Reason → ℕ → Unfit
 unfit e r k = record { holder = e; reason = r; entry = k }
 
-abbrev pub orElse : Option Unfit → Option Unfit → Option Unfit
-orElse None b = b
-orElse (Some x) b = Some x
-
 -- A function at e, from the summary of its body b
 abbrev pub functionFault : ℕ → Bool → ℕ → Summary → Option Unfit
 functionFault e typed b s =
@@ -74,17 +71,13 @@ faultOf ws e (Return v) = None
 abbrev pub faultAt : List ℕ → ℕ → Option Unfit
 faultAt ws e = faultOf ws e (control ws e)
 
--- The first of n entries, from e on, that has a fault
-unfoldable pub firstFault : List ℕ → ℕ → ℕ → Option Unfit
-firstFault ws e zero = None
-firstFault ws e (suc n) = orElse (faultAt ws e) (firstFault ws (e + 1) n)
-
 abbrev pub answer : Option Unfit → Result (Unit {0}) Unfit
 answer None = Ok tt
 answer (Some u) = Err u
 
+-- The first fault, if any
 abbrev pub fitness : List ℕ → Result (Unit {0}) Unfit
-fitness ws = answer (firstFault ws 0 (entries ws))
+fitness ws = answer (firstSome (faultAt ws) 0 (entries ws))
 
 -- The set of a statement; none of another entry
 abbrev pub isStatement : Control → Bool

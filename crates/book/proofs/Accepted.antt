@@ -12,16 +12,18 @@ use Rattle.std.specs.Options.{isSome}
 use Rattle.std.specs.declared.option.Option.{Option}
 use Rattle.std.specs.declared.option.Option.the-variants.{Some, None}
 use Rattle.std.proofs.shelf.Tests.{and-from, and-parts, cases-bool, cases-eq, cond-false, cond-true, le-ltb, ltb-false, true≢false}
+use Rattle.book.specs.First.{orElse}
 use Rattle.book.specs.Layout.{bodyPasses, end, entries, field, groups, groupsFrom, groupsPass, place, runPasses, shape, tail, tailFrom}
 use Rattle.shape.specs.Shapes.{fits}
-use Rattle.book.specs.Verdict.{accepted, at, childFault, childFits, first, layoutFault, leftOver, orElse, refusal, sized}
+use Rattle.book.specs.Verdict.{accepted, at, childFault, childFits, first, layoutFault, leftOver, refusal, sized}
 use Rattle.book.specs.WellFormed.{EachField, WellFormed}
 use Rattle.book.specs.declared.error.BookError.{BookError}
 use Rattle.book.specs.declared.error.BookFault.{BookFault}
 use Rattle.book.specs.declared.error.BookFault.the-variants.{BadLength, BadPlace, WrongChild}
 use Rattle.shape.specs.declared.Field.{Field}
 use Rattle.book.proofs.Bodies.{head-fits}
-use Rattle.book.proofs.Refusals.{Laid, Sized, child-fine, each-first, first-each, laid, neither, none-left, refused-children, refused-next, refused-sized, sizes, unlaid, unsized}
+use Rattle.book.proofs.Firsts.{neither}
+use Rattle.book.proofs.Refusals.{Laid, Sized, child-fine, each-first, first-each, laid, none-left, refused-children, refused-next, refused-sized, sizes, unlaid, unsized}
 
 module _ (t : Field → ℕ → Bool) (ws : List ℕ) (p : ℕ) where
   -- a run passes where each of its fields does

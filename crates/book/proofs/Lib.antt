@@ -1,3 +1,4 @@
+pub mod Firsts
 pub mod Bodies
 pub mod Refusals
 pub mod Accepted

@@ -8,15 +8,17 @@ use native.Mathlib.Numerals.{add-one}
 use native.Mathlib.Omega.{arith}
 use lib.Dec.{eqb, leb, ltb}
 use lib.ListN.{length, getD}
-use Rattle.std.specs.Options.{isSome}
+use Rattle.std.specs.Options.{isSome, mapped}
 use Rattle.std.specs.declared.option.Option.{Option}
 use Rattle.std.specs.declared.option.Option.the-variants.{Some, None}
 use Rattle.std.specs.declared.result.Result.{Result}
 use Rattle.std.specs.declared.result.Result.the-variants.{Ok, Err}
 use Rattle.std.proofs.shelf.Tests.{and-from, and-parts, cases-eq, cond-false, cond-true, eq-eqb, eqb-true, le-leb, le-ltb, leb-false, leb-true, lt-leb, lt-ltb, ltb-false, ne-eqb, not-false, not-from-false, not-from-true, or-from, or-left, or-parts, or-right}
+use Rattle.book.specs.First.{orElse}
 use Rattle.book.specs.Layout.{bodyPasses, construct, end, entries, place, shape, start}
 use Rattle.shape.specs.Shapes.{fits, shapeOf}
-use Rattle.book.specs.Verdict.{answer, at, childFault, childFits, first, layoutFault, leftOver, misplaced, orElse, refusal, sized}
+use Rattle.book.specs.Verdict.{answer, at, childFault, childFits, first, layoutFault, leftOver, misplaced, refusal, sized}
+use Rattle.book.proofs.Firsts as some
 use Rattle.book.specs.declared.error.BookError.{BookError}
 use Rattle.book.specs.declared.error.BookFault.{BookFault}
 use Rattle.book.specs.declared.error.BookFault.the-variants.{BadField, BadLength, BadPlace, WrongChild}
@@ -83,44 +85,28 @@ module _ (ws : List ℕ) (e q : ℕ) (starts : q ≡ start ws e) where
         fine m b = layout-left ∙ cond-false _ _ _ (or-from _ _ m (not-from-true _ b))
 
 -- The first entry with a fault
+mapped-none : (e : ℕ) (o : Option BookFault) → mapped (λ x. at x e) o ≡ None → o ≡ None
+mapped-none e None h = refl
+mapped-none e (Some b) h = let w : _≡_ {A = ℕ} 0 1 = cc in absurd (omega arith)
+
 module _ (f : ℕ → Option BookFault) where
+  abbrev located : ℕ → Option BookError
+  located e = mapped (λ b. at b e) (f e)
+
   pub first-more : (e n : ℕ) → e < n → f e ≡ None → first f (e + 1) (n - (e + 1)) ≡ first f e (n - e)
-  unfolding first
-  first-more e n h none =
-      let i : n - e ≡ suc (n - (e + 1)) = omega arith in
-      sym (ap (first f e) i ∙ ap (λ (o : Option BookFault). elim o [ Some b ↦ Some (at b e) | None ↦ first f (e + 1) (n - (e + 1)) ]) none)
+  first-more e n h none = some.first-more located e n h (ap (mapped (λ b. at b e)) none)
 
   pub first-hit : (e n : ℕ) (b : BookFault) → e < n → f e ≡ Some b → first f e (n - e) ≡ Some (at b e)
-  unfolding first
-  first-hit e n b h some =
-      let i : n - e ≡ suc (n - (e + 1)) = omega arith in
-      ap (first f e) i ∙ ap (λ (o : Option BookFault). elim o [ Some c ↦ Some (at c e) | None ↦ first f (e + 1) (n - (e + 1)) ]) some
+  first-hit e n b h is = some.first-hit located e n (at b e) h (ap (mapped (λ x. at x e)) is)
 
   pub first-none : (e n : ℕ) → n ≤ e → first f e (n - e) ≡ None
-  unfolding first
-  first-none e n h = let i : n - e ≡ 0 = omega arith in ap (first f e) i
-
-  -- where none is found, none of the entries has a fault
-  found : (e n : ℕ) (o : Option BookFault) → f e ≡ o → first f e (suc n) ≡ None → (o ≡ None) × (first f (e + 1) n ≡ None)
-  unfolding first
-  found e n None is h = (refl, sym (ap (λ (o : Option BookFault). elim o [ Some b ↦ Some (at b e) | None ↦ first f (e + 1) n ]) is) ∙ h)
-  found e n (Some b) is h =
-      let z : Some (at b e) ≡ None = sym (ap (λ (o : Option BookFault). elim o [ Some c ↦ Some (at c e) | None ↦ first f (e + 1) n ]) is) ∙ h in
-      let w : _≡_ {A = ℕ} 0 1 = cc in
-      absurd (omega arith)
+  first-none e n h = some.first-none located e n h
 
   pub first-each : (n e k : ℕ) → first f e n ≡ None → e ≤ k → k < e + n → f k ≡ None
-  first-each zero e k h a b = absurd (omega arith)
-  first-each (suc n) e k h a b =
-      let r = found e n (f e) refl h in
-      ⊎-elim (λ same. ap f same ∙ r .0) (λ other. first-each n (e + 1) k (r .1) (omega arith) (omega arith)) (cases-eq k e)
+  first-each n e k h a b = mapped-none k (f k) (some.first-each located n e k h a b)
 
   pub each-first : (n e : ℕ) → ((k : ℕ) → e ≤ k → k < e + n → f k ≡ None) → first f e n ≡ None
-  unfolding first
-  each-first zero e h = refl
-  each-first (suc n) e h =
-      ap (λ (o : Option BookFault). elim o [ Some c ↦ Some (at c e) | None ↦ first f (e + 1) n ]) (h e (omega arith) (omega arith))
-      ∙ each-first n (e + 1) (λ k a b. h k (omega arith) (omega arith))
+  each-first n e h = some.each-first located n e (λ k a b. ap (mapped (λ x. at x k)) (h k a b))
 
 pub start-more : (ws : List ℕ) (e : ℕ) → start ws (e + 1) ≡ end ws (place ws e)
 start-more ws e = ap (start ws) (add-one e)
@@ -223,10 +209,6 @@ answer-ok (Some b) h = let w : _≡_ {A = ℕ} 0 1 = cc in absurd (omega arith)
 pub answer-err : (o : Option BookError) (b : BookError) → Err b ≡ answer o → o ≡ Some b
 answer-err None b h = let w : _≡_ {A = ℕ} 0 1 = cc in absurd (omega arith)
 answer-err (Some x) b h = cc
-
-pub neither : (a b : Option BookError) → orElse a b ≡ None → (a ≡ None) × (b ≡ None)
-neither None b h = (refl, h)
-neither (Some x) b h = let w : _≡_ {A = ℕ} 0 1 = cc in absurd (omega arith)
 
 -- Behind the last body
 pub start-last : (ws : List ℕ) (e : ℕ) → e ≡ entries ws → 1 ≤ entries ws → start ws e ≡ end ws (place ws (entries ws - 1))

@@ -4,11 +4,12 @@ use mathlib.Core.List.{List, [], _∷_}
 use Prim.Native.Nat.{ℕ, zero, suc, _+_, _-_}
 use lib.Dec.{eqb, leb, ltb}
 use lib.ListN.{length, getD}
-use Rattle.std.specs.Options.{isSome}
+use Rattle.std.specs.Options.{isSome, mapped}
 use Rattle.std.specs.declared.option.Option.{Option}
 use Rattle.std.specs.declared.option.Option.the-variants.{Some, None}
 use Rattle.std.specs.declared.result.Result.{Result}
 use Rattle.std.specs.declared.result.Result.the-variants.{Ok, Err}
+use Rattle.book.specs.First.{firstSome, orElse}
 use Rattle.book.specs.Layout.{bodyPasses, construct, end, entries, place, start}
 use Rattle.shape.specs.Shapes.{fits, takes}
 use Rattle.book.specs.declared.error.BookError.{BookError}
@@ -69,18 +70,13 @@ abbrev pub at : BookFault → ℕ → BookError
 at f e = record { fault = f; entry = e }
 
 -- The first of n entries, from e on, that has a fault
-unfoldable pub first : (ℕ → Option BookFault) → ℕ → ℕ → Option BookError
-first f e zero = None
-first f e (suc n) = elim (f e) [ Some b ↦ Some (at b e) | None ↦ first f (e + 1) n ]
+abbrev pub first : (ℕ → Option BookFault) → ℕ → ℕ → Option BookError
+first f = firstSome (λ e. mapped (λ b. at b e) (f e))
 
 -- Words left over behind the last body
 abbrev pub leftOver : List ℕ → Option BookError
 leftOver ws =
     cond (ltb (end ws (place ws (entries ws - 1))) (length ws)) (Some (at BadPlace (entries ws - 1))) None
-
-abbrev pub orElse : Option BookError → Option BookError → Option BookError
-orElse None b = b
-orElse (Some x) b = Some x
 
 -- The refusal of the words, if any: their number, then each entry's body, then words left over, then each entry's
 -- children

@@ -3,9 +3,11 @@ use Prim.Native.Nat.{_≤_}
 use native.Mathlib.Omega.{arith}
 use Rattle.std.specs.declared.result.Result.the-variants.{Err}
 use Rattle.std.proofs.shelf.Results.{err-from-errBy}
+use Rattle.book.specs.First.{orElse}
 use Rattle.book.specs.Layout.{entries}
-use Rattle.book.specs.Verdict.{answer, first, layoutFault, leftOver, orElse, refusal}
-use Rattle.book.proofs.Refusals.{answer-err, answer-ok, first-each, neither, refused-children, refused-layout, refused-sized}
+use Rattle.book.specs.Verdict.{answer, first, layoutFault, leftOver, refusal}
+use Rattle.book.proofs.Firsts.{neither}
+use Rattle.book.proofs.Refusals.{answer-err, answer-ok, first-each, refused-children, refused-layout, refused-sized}
 use Rattle.book.proofs.load.judge.Needs as need
 
 pub returns-then-not-is-sized : need.returns-then-not-is-sized

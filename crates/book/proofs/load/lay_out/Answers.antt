@@ -2,8 +2,9 @@ use mathlib.Core.Path.{_≡_, sym, ap, subst, _∙_}
 use Prim.Native.Nat.{_≤_, _<_, _-_, _+_}
 use native.Mathlib.Omega.{arith}
 use lib.ListN.{length}
+use Rattle.book.specs.First.{orElse}
 use Rattle.book.specs.Layout.{end, entries, place, start}
-use Rattle.book.specs.Verdict.{answer, first, layoutFault, leftOver, orElse}
+use Rattle.book.specs.Verdict.{answer, first, layoutFault, leftOver}
 use Rattle.book.proofs.Refusals.{first-hit, first-more, first-none, left-over, none-left, sizes, start-last, start-more}
 use Rattle.book.proofs.load.lay_out.Needs as need
 

@@ -1,0 +1,9 @@
+use mathlib.Core.Path.{ap, _∙_}
+use native.Mathlib.Omega.{arith}
+use Rattle.std.proofs.shelf.Signed.{ints}
+use Rattle.host.specs.declared.HostFault.the-variants.{SubOverflow}
+use Rattle.arithmetic.specs.Operations.{settled}
+use Rattle.arithmetic.proofs.subtract.Needs as need
+
+pub returns : need.returns
+returns c = c .settle .ensures ∙ ap (settled SubOverflow (c .args .t)) (omega (arith, ints))

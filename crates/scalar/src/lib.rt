@@ -1,0 +1,3 @@
+// A host of booleans and integers.
+pub mod operators;
+pub mod values;

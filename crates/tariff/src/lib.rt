@@ -1,0 +1,3 @@
+// A host of flags, counts, weights and prices.
+pub mod operators;
+pub mod values;

@@ -126,9 +126,12 @@ fn perform(rt: &LibcRuntime, command: &str, path: &str) -> Result<(), AnyError> 
 fn batch(rt: &LibcRuntime) -> Result<(), AnyError> {
     for line in rt.lines(rt.alloc()) {
         let line = line?;
-        if let Some((command, path)) = line.as_str().split_once(' ') {
-            println!(rt, "> {command} {path}")?;
-            perform(rt, command, path)?;
+        match line.as_str().split_once(' ') {
+            Some((command, path)) => {
+                println!(rt, "> {command} {path}")?;
+                perform(rt, command, path)?;
+            }
+            None => return Err(USAGE.into()),
         }
     }
     Ok(())

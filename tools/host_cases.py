@@ -2,7 +2,7 @@
 """Writes crates/host_cases/stdin and stdout: questions to the two hosts with the answers that the rules give.
 
 The answers are computed here from the rules of docs/HOSTS.md with Python's integers, and not by the Rattle code.
-BY_HAND has answers that were worked out on paper; the tool stops where it gives another.
+host_cases_by_hand.txt has answers that were worked out by hand; the tool stops where it gives another.
 """
 import os
 import sys
@@ -416,84 +416,9 @@ def questions():
         yield "tariff type %s" % text
 
 
-# Worked out on paper from the rules.
-BY_HAND = """
-scalar binary const + i2147483647 i1 = i-2147483648
-scalar binary exec + a9223372036854775807 a1 = !43
-scalar binary const + a9223372036854775807 a1 = !43
-scalar binary override - a-9223372036854775808 a1 = !44
-scalar binary exec * a9223372036854775807 a2 = !45
-scalar binary exec - u0 u1 = u4294967295
-scalar binary exec * u65536 u65536 = u0
-scalar binary exec * i-2147483648 i-1 = i-2147483648
-scalar binary exec / i-2147483648 i-1 = i-2147483648
-scalar binary const / i-2147483648 i-1 = !42
-scalar binary exec / a-9223372036854775808 a-1 = !42
-scalar binary override / i-2147483648 i-1 = !42
-scalar binary exec / i1 i0 = i1
-scalar binary const / i1 i0 = !46
-scalar binary override / u1 u0 = !46
-scalar binary exec / u1 u0 = u1
-scalar binary exec / a1 a0 = !46
-scalar binary exec % i1 i0 = i0
-scalar binary const % i1 i0 = !47
-scalar binary exec % a1 a0 = !47
-scalar binary const % a-9223372036854775808 a-1 = a0
-scalar binary const % i-2147483648 i-1 = i0
-scalar binary exec / i-7 i2 = i-3
-scalar binary exec % i-7 i2 = i-1
-scalar binary exec / i7 i-2 = i-3
-scalar binary exec % i7 i-2 = i1
-scalar binary const < a2147483648 i1 = !41
-scalar binary const == i1 u1 = !41
-scalar binary const ^ b1 b1 = !41
-scalar binary const < b0 b1 = !41
-scalar binary const & b1 b0 = b0
-scalar binary const | b1 b0 = b1
-scalar binary const == b0 b0 = b1
-scalar binary const + a1 i2 = i3
-scalar binary const + a-1 u1 = !41
-scalar binary const & i-1 i7 = i7
-scalar binary const | i-7 i2 = i-5
-scalar binary const ^ u4294967295 u1 = u4294967294
-scalar unary const - i-2147483648 = i-2147483648
-scalar unary const - a-9223372036854775808 = a-9223372036854775808
-scalar unary const - u1 = !40
-scalar unary const ~ u0 = u4294967295
-scalar unary const ~ i7 = i-8
-scalar unary const ! b1 = b0
-scalar unary const ! i1 = !40
-scalar literal 3 65535 65535 65535 65535 = !55
-scalar literal 3 65535 65535 0 0 = u4294967295
-scalar literal 0 2 0 0 0 = !55
-scalar literal 1 0 0 0 32768 = a-9223372036854775808
-scalar up i2147483647 = i-2147483648
-scalar down u0 = u4294967295
-scalar up a1 = wrong type
-scalar same i1 u1 = false
-scalar convert a-1 3 = none
-scalar zero 1 = none
-scalar concretise 1 = 2
-tariff binary exec / p150 p50 = c3
-tariff binary exec / p150 c4 = p37
-tariff binary exec / c2 g0 = !41
-tariff binary exec / p7 c0 = !46
-tariff binary exec % g500 g3 = g2
-tariff binary exec * c65536 g65536 = !45
-tariff binary exec * c65535 g65537 = g4294967295
-tariff binary exec * g5 c3 = g15
-tariff binary exec * g5 p5 = !41
-tariff binary exec - p50 p150 = !44
-tariff binary exec + c4294967295 c1 = !43
-tariff binary exec == p1 p1 = f1
-tariff binary exec < f0 f1 = !41
-tariff binary exec ^ f1 f1 = !41
-tariff up c4294967295 = overflow
-tariff down c0 = overflow
-tariff up g1 = wrong type
-tariff zero 77 = none
-tariff literal 4 65535 65535 65535 65535 = !55
-""".strip().splitlines()
+# Answers that were worked out by hand from the rules.
+with open(os.path.join(ROOT, "tools", "host_cases_by_hand.txt")) as f:
+    BY_HAND = f.read().splitlines()
 
 
 def main():

@@ -3,8 +3,8 @@
 
     compare_damaged.py RULEBOOK BOOK...
 
-Every single-word change and every cut of each BOOK is written to a scratch folder, checked by one `rulebook batch`, and
-compared with refcheck.py: number, name and entry. Prints a count; exits 1 if anything differs.
+The copies that damage.py makes of each BOOK, and books at the limits of length, are written to a scratch folder, checked
+by one `rulebook batch`, and compared with refcheck.py: number, name and entry. Prints a count; exits 1 if anything differs.
 """
 
 from __future__ import annotations

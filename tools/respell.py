@@ -66,7 +66,10 @@ def changes():
         taken[change[old]] = old
     for old, new in list(change.items()):
         if new in defined and new not in change:
-            change[new] = new + "_lem"
+            if new in spec_names:
+                change[old] = new + "_lem"
+            else:
+                change[new] = new + "_lem"
     return change
 
 
@@ -77,11 +80,14 @@ def respell(path, change):
     for line in text.split("\n"):
         remark = line.lstrip().startswith(("--", "//"))
         module = re.match(r"use Rattle\.[a-z_]+\.proofs\.[a-z]|pub mod |mod ", line) if not code else None
+        if code and '"' in line:
+            made.append(line)
+            continue
 
         def one(found):
             old = found.group(0)
             upper = re.search("[A-Z]", old)
-            if (code or remark) and not upper:
+            if remark and not upper or code and not upper and "-" not in old:
                 return old
             return change.get(old, old)
 

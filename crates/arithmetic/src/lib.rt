@@ -1,3 +1,4 @@
+#![tactic(auto)]
 // The operators on two scalars of one type: the exact result, brought into the type.
 ghost use Rattle.std.specs.Prelude.{◌≡◌, true, ◌≢◌, pos, ◌*ℤ◌, bit_and, bit_or, bit_xor, int_div, int_rem};
 ghost use Rattle.scalar_value.specs.declared.ScalarType.TheVariants.{Bool as BoolType};

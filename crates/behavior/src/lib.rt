@@ -1,3 +1,4 @@
+#![tactic(auto)]
 // Behaviors: how each statement may end.
 pub mod analysis;
 pub mod set;

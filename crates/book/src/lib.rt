@@ -1,3 +1,4 @@
+#![tactic(auto)]
 // Rule books: loading, and reading what is loaded.
 pub mod book;
 pub mod node;

@@ -1,3 +1,4 @@
+#![tactic(auto)]
 // Runs of load, of the reader and of the analysis at their edges.
 #[cfg(test)]
 mod behaving;

@@ -1,3 +1,4 @@
+#![tactic(auto)]
 // What of a node matters to the way it may end.
 ghost use Rattle.std.specs.Prelude.{◌≡◌};
 ghost use Rattle.control.specs.Control.{control, control_of, exits, is_statement};

@@ -1,3 +1,4 @@
+#![tactic(auto)]
 // Numbers as fields have them: shortest decimals, with a minus sign before a negative number.
 ghost use Rattle.std.specs.Prelude.{◌^◌, ◌<◌, ◌∷◌, decimal, FitsSigned};
 ghost use Rattle.std.specs.Int.{w64};

@@ -1,3 +1,4 @@
+#![tactic(auto)]
 // What a host gives to an executor: values, and operators on them.
 ghost use Rattle.std.specs.Prelude.{◌≡◌, Some};
 ghost use Rattle.std.specs.List.{slice_get};

@@ -1,3 +1,4 @@
+#![tactic(auto)]
 // Runs a table of cases of the two hosts: a line has a question, ` = ` and the answer that the rules give.
 // Each line is written with the answer of the host, and with the other one too where they differ.
 use host::{HostFault, Operators, Stage, Stepped, Values};

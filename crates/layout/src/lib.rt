@@ -1,3 +1,4 @@
+#![tactic(auto)]
 // The layout of books: which words make a book, and why others do not.
 pub mod error;
 pub mod file;

@@ -8,7 +8,7 @@ use Rattle.host.specs.Meaning.{ValueMeaning}
 use Rattle.syntax.specs.declared.DeclarationKind.{DeclarationKind}
 use Rattle.syntax.specs.declared.DeclarationKind.TheVariants.{Const, Let, Var}
 use Rattle.names.specs.Laws.{GivesBack, Grown, Lasting, OneValue, Same, close_times, fixed, lasting}
-use Rattle.names.specs.Rules.{bound, close_all, close_scope, closing, if_named, if_var, lookup, newest_from, open_scope, revalued, root_names_lem, the_var, variable, written}
+use Rattle.names.specs.Rules.{bound, close_all, close_scope, closing, if_named, if_var, lookup, newest_from, open_scope, revalued, root_names, the_var, variable, written}
 use Rattle.names.specs.Scopes.{call_first, if_call, nested, root_end}
 use Rattle.names.specs.State.{State}
 use Rattle.names.specs.declared.binding.Binding.{Binding}
@@ -53,11 +53,11 @@ module _ {V : Type 0} where
   -- ## The root's names
 
   module _ (s : State V) (h : nested s.scopes (length s.bindings) ≡ true) where
-    root_count : length (root_names_lem s) ≡ root_end s.scopes (length s.bindings)
+    root_count : length (root_names s) ≡ root_end s.scopes (length s.bindings)
     root_count = length-take-le _ s.bindings (root_end_le s.scopes (length s.bindings) h)
 
-    pub root_survives : root_names_lem (close_all s) ≡ root_names_lem s
-    root_survives = take_all (length (root_names_lem s)) (root_names_lem s) (omega arith)
+    pub root_survives : root_names (close_all s) ≡ root_names s
+    root_survives = take_all (length (root_names s)) (root_names s) (omega arith)
 
   module _ (scope : Scope) (outer : List Scope) (bs : List (Binding V)) (h : nested (scope ∷ outer) (length bs) ≡ true) where
     first_count : length (take scope.first bs) ≡ scope.first
@@ -71,11 +71,11 @@ module _ {V : Type 0} where
         ap (λ k. take (root_end outer k) (take scope.first bs)) first_count
         ∙ take-take (root_end outer scope.first) scope.first bs (root_end_le outer scope.first (nested_parts scope outer (length bs) h).1)
 
-  closing_root : (scopes : List Scope) (s : State V) → s.scopes ≡ scopes → nested scopes (length s.bindings) ≡ true → root_names_lem (closing scopes s) ≡ take (root_end scopes (length s.bindings)) s.bindings
+  closing_root : (scopes : List Scope) (s : State V) → s.scopes ≡ scopes → nested scopes (length s.bindings) ≡ true → root_names (closing scopes s) ≡ take (root_end scopes (length s.bindings)) s.bindings
   closing_root [] s is h = ap (λ ss. take (root_end ss (length s.bindings)) s.bindings) is
   closing_root (scope ∷ outer) s is h = root_same scope outer s.bindings h
 
-  pub close_root : (s : State V) → nested s.scopes (length s.bindings) ≡ true → root_names_lem (close_scope s) ≡ root_names_lem s
+  pub close_root : (s : State V) → nested s.scopes (length s.bindings) ≡ true → root_names (close_scope s) ≡ root_names s
   close_root s h = closing_root s.scopes s refl h
 
   -- Closing scope after scope comes to closing all.
@@ -99,7 +99,7 @@ module _ {V : Type 0} where
         let e : newest_from b.name (call_first s.scopes) (s.bindings ++ b ∷ []) ≡ Some (record { place = length s.bindings; binding = b }) =
         newest_from_push b.name (call_first s.scopes) s.bindings b low
         ∙ ap (λ t. option_or (cond t (Some (record { place = length s.bindings; binding = b })) None) (newest_from b.name (call_first s.scopes) s.bindings)) (eq-eqb b.name b.name refl) in
-        ap (λ o. ok_or (option_or o (newest_from b.name 0 (root_names_lem (bound b s)))) UnknownDecl) e
+        ap (λ o. ok_or (option_or o (newest_from b.name 0 (root_names (bound b s)))) UnknownDecl) e
 
   other_from : (name lo : ℕ) (bs : List (Binding V)) (b : Binding V) → lo ≤ length bs → (b.name ≡ name → ⊥) → newest_from name lo (bs ++ b ∷ []) ≡ newest_from name lo bs
   other_from name lo bs b h ne =
@@ -119,7 +119,7 @@ module _ {V : Type 0} where
   pub others_stay : (s : State V) (b : Binding V) → nested s.scopes (length s.bindings) ≡ true → (name : ℕ) → name ≢ b.name → lookup name (bound b s) ≡ lookup name s
   others_stay s b h name ne =
       let apart : b.name ≡ name → ⊥ = λ e. ne (sym e) in
-      ap (λ o. ok_or (option_or o (newest_from name 0 (root_names_lem (bound b s)))) UnknownDecl) (other_from name (call_first s.scopes) s.bindings b (low s b h) apart)
+      ap (λ o. ok_or (option_or o (newest_from name 0 (root_names (bound b s)))) UnknownDecl) (other_from name (call_first s.scopes) s.bindings b (low s b h) apart)
       ∙ ap (λ o. ok_or (option_or (newest_from name (call_first s.scopes) s.bindings) o) UnknownDecl) (other_root name s.scopes s.bindings b h apart)
 
   -- ## A write

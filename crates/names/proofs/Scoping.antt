@@ -3,7 +3,7 @@ use Rattle.std.proofs.Common.{◌≡◌, ℕ, ◌+◌, ◌-◌, ◌<◌, ◌≤�
 use Rattle.std.proofs.lemmas.List.{get_or-set_same, length-reverse, length-set, length-take-le, take-set, take-take}
 use Rattle.std.proofs.lemmas.Bool.{leb-true, le-leb, le-ltb, lt-ltb, and_parts, and_from}
 use Rattle.names.specs.Laws.{GivesBack}
-use Rattle.names.specs.Rules.{close_all, close_scope, closing, may_open, open_scope, root_names_lem}
+use Rattle.names.specs.Rules.{close_all, close_scope, closing, may_open, open_scope, root_names}
 use Rattle.names.specs.Scopes.{call_first, closed, if_call, nested, opened}
 use Rattle.names.specs.State.{State, state_of}
 use Rattle.names.specs.declared.names.Names.{Names}
@@ -98,8 +98,8 @@ module _ {V : Type 0} (n : Names V) where
         ∙ ap (λ bs. record { bindings = bs; scopes = opened n.scopes (n.depth - 1); usable = n.usable }) (sym (take-take leaving.first n.bound n.table.now close_room))
         ∙ ap (λ ss. closing ss (state_of n)) (sym top)
 
-    pub close_root_survives : root_names_lem (record { bindings = take leaving.first n.table.now; scopes = opened closed_table (n.depth - 1); usable = n.usable }) ≡ root_names_lem (state_of n)
-    close_root_survives = ap root_names_lem close_state ∙ close_root (state_of n) in_order
+    pub close_root_survives : root_names (record { bindings = take leaving.first n.table.now; scopes = opened closed_table (n.depth - 1); usable = n.usable }) ≡ root_names (state_of n)
+    close_root_survives = ap root_names close_state ∙ close_root (state_of n) in_order
 
     pub close_cleared : get_or closed_table (n.depth - 1) closed ≡ closed
     close_cleared = get_or-set_same n.scopes (n.depth - 1) closed closed (omega (arith, n.sized, n.shallow))

@@ -46,12 +46,12 @@ module _ {V : Type 0} where
   abbrev pub close_scope : State V → State V
   close_scope s = closing s.scopes s
 
-  abbrev pub root_names_lem : State V → List (Binding V)
-  root_names_lem s = take (root_end s.scopes (length s.bindings)) s.bindings
+  abbrev pub root_names : State V → List (Binding V)
+  root_names s = take (root_end s.scopes (length s.bindings)) s.bindings
 
   -- Closing to the root leaves its names alone.
   abbrev pub close_all : State V → State V
-  close_all s = record { bindings = root_names_lem s; scopes = []; usable = s.usable }
+  close_all s = record { bindings = root_names s; scopes = []; usable = s.usable }
 
   -- ## Finding
 
@@ -69,7 +69,7 @@ module _ {V : Type 0} where
 
   -- A callee sees its own names, and then the root's; outside any call all names are seen.
   abbrev pub lookup : ℕ → State V → Result (Found V) NameFault
-  lookup name s = ok_or (option_or (newest_from name (call_first s.scopes) s.bindings) (newest_from name 0 (root_names_lem s))) UnknownDecl
+  lookup name s = ok_or (option_or (newest_from name (call_first s.scopes) s.bindings) (newest_from name 0 (root_names s))) UnknownDecl
 
   -- Whether the innermost scope, or the parent of a transparent one, has the name already.
   abbrev pub duplicate : ℕ → State V → Bool

@@ -1,3 +1,4 @@
+#![tactic(auto)]
 // Names: what is bound, in which scope, and how a name is found and written.
 pub mod bind;
 pub mod binding;

@@ -41,9 +41,9 @@ impl<V: Copy> Names<'_, V> {
         place: usize,
         value: V,
     ) -> Result<(), NameFault>
-        ensures answer { result ≡ answered (write (means host.now) place value (state_of self.old)) }
-        ensures state { let s = state_of self.old in state_of self.new ≡ result_unwrap_or (write (means host.now) place value s) s }
-        ensures one_value { OneValue (means host.now) place (state_of self.old) (state_of self.new) }
+        ensures answer { result ≡ answered (write (H.means host.now) place value (state_of self.old)) }
+        ensures state { let s = state_of self.old in state_of self.new ≡ result_unwrap_or (write (H.means host.now) place value s) s }
+        ensures one_value { OneValue (H.means host.now) place (state_of self.old) (state_of self.new) }
     {
         let Some(binding) = self.variable(place) else {
             return Err(NameFault::NotRef);
@@ -62,9 +62,9 @@ impl<V: Copy> Names<'_, V> {
         place: usize,
         value: V,
     ) -> Result<(), NameFault>
-        ensures answer { result ≡ answered (assign (means host.now) place value (state_of self.old)) }
-        ensures state { let s = state_of self.old in state_of self.new ≡ result_unwrap_or (assign (means host.now) place value s) s }
-        ensures one_value { OneValue (means host.now) place (state_of self.old) (state_of self.new) }
+        ensures answer { result ≡ answered (assign (H.means host.now) place value (state_of self.old)) }
+        ensures state { let s = state_of self.old in state_of self.new ≡ result_unwrap_or (assign (H.means host.now) place value s) s }
+        ensures one_value { OneValue (H.means host.now) place (state_of self.old) (state_of self.new) }
     {
         let Some(binding) = self.variable(place) else {
             return Err(NameFault::NotRef);

@@ -1,3 +1,4 @@
+#![tactic(auto)]
 // Performs operations on tables of names, one a line of the standard input, and prints each line with its answer.
 // With three arguments it looks names up many times, for a clock outside.
 mod bench;
@@ -9,6 +10,7 @@ use names::binding::Binding;
 use names::names::Names;
 use scalar_value::Scalar;
 use std::env;
+use std::process::ExitCode;
 use syntax::DeclarationKind;
 
 const USAGE: &str =
@@ -68,14 +70,16 @@ fn run(rt: &HostRuntime) -> anyhow::Result<()> {
             let rounds: u64 = args[2].as_str().parse()?;
             bench::look_up(rt, count, each, rounds)
         }
-        _ => Err(USAGE.into()),
+        _ => Err(anyhow!("{USAGE}")),
     }
 }
 
-fn main(rt: HostRuntime) -> anyhow::Result<()> {
-    let done = run(&rt);
-    if let Err(error) = &done {
-        eprintln!(rt; "names_cases: {error}")?;
+fn main(rt: HostRuntime) -> ExitCode {
+    match run(&rt) {
+        Ok(()) => ExitCode::SUCCESS,
+        Err(error) => {
+            let _ = eprintln!(rt; "names_cases: {error}");
+            ExitCode::FAILURE
+        }
     }
-    done
 }

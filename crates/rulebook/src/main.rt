@@ -1,12 +1,15 @@
+#![tactic(auto)]
 // Checks and shows rule books, and says how their statements may end.
 mod listing;
 mod report;
 
+use anyhow::anyhow;
 use book::book::Book;
 use layout::error::{BookError, BookFault};
 use layout::file::words_of;
 use std::fs::File;
 use std::io::Read;
+use std::process::ExitCode;
 use std::{env, fs, io};
 
 const USAGE: &str =
@@ -28,8 +31,7 @@ fn read_file(rt: &HostRuntime, path: &str) -> anyhow::Result<Vec<u8>> {
     let mut file = match fs::open(rt, path) {
         Ok(file) => file,
         Err(error) => {
-            let message = format!(in rt.alloc(); "{path}: {error}")?;
-            return Err(message.into());
+            return Err(anyhow!("{path}: {error}"));
         }
     };
     let mut bytes = Vec::new(rt.alloc());
@@ -45,8 +47,7 @@ fn read_file(rt: &HostRuntime, path: &str) -> anyhow::Result<Vec<u8>> {
 fn read_words(rt: &HostRuntime, path: &str) -> anyhow::Result<Vec<u16>> {
     let bytes = read_file(rt, path)?;
     if bytes.len() <= ENOUGH && bytes.len() % 2 != 0 {
-        let message = format!(in rt.alloc(); "{path}: an odd number of bytes")?;
-        return Err(message.into());
+        return Err(anyhow!("{path}: an odd number of bytes"));
     }
     Ok(words_of(rt.alloc(), bytes.as_slice())?)
 }
@@ -114,7 +115,7 @@ fn perform(rt: &HostRuntime, command: &str, path: &str) -> anyhow::Result<()> {
         "check" => check(rt, path),
         "show" => show(rt, path),
         "behavior" => behavior(rt, path),
-        _ => Err(USAGE.into()),
+        _ => Err(anyhow!("{USAGE}")),
     }
 }
 
@@ -127,7 +128,7 @@ fn batch(rt: &HostRuntime) -> anyhow::Result<()> {
                 println!(rt; "> {command} {path}")?;
                 perform(rt, command, path)?;
             }
-            None => return Err(USAGE.into()),
+            None => return Err(anyhow!("{USAGE}")),
         }
     }
     Ok(())
@@ -141,13 +142,15 @@ fn run(rt: &HostRuntime) -> anyhow::Result<()> {
     if args.len() == 1 && args[0].as_str() == "batch" {
         return batch(rt);
     }
-    Err(USAGE.into())
+    Err(anyhow!("{USAGE}"))
 }
 
-fn main(rt: HostRuntime) -> anyhow::Result<()> {
-    let done = run(&rt);
-    if let Err(error) = &done {
-        eprintln!(rt; "rulebook: {error}")?;
+fn main(rt: HostRuntime) -> ExitCode {
+    match run(&rt) {
+        Ok(()) => ExitCode::SUCCESS,
+        Err(error) => {
+            let _ = eprintln!(rt; "rulebook: {error}");
+            ExitCode::FAILURE
+        }
     }
-    done
 }

@@ -6,7 +6,7 @@ use Rattle.host.specs.Meaning.{ValueMeaning}
 use Rattle.syntax.specs.declared.DeclarationKind.{DeclarationKind}
 use Rattle.syntax.specs.declared.DeclarationKind.TheVariants as K
 use Rattle.names.specs.Laws.{Lasting, fixed, lasting}
-use Rattle.names.specs.Rules.{if_named, lookup, newest, newest_from, root_names_lem}
+use Rattle.names.specs.Rules.{if_named, lookup, newest, newest_from, root_names}
 use Rattle.names.specs.Scopes.{call_first, root_end}
 use Rattle.names.specs.declared.binding.Binding.{Binding}
 use Rattle.names.specs.declared.binding.Found.{Found}

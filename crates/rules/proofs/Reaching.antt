@@ -3,7 +3,7 @@ use Rattle.std.proofs.Common.{◌≡◌, ℕ, List, [], ◌∷◌, ◌++◌, map
 use Rattle.std.proofs.lemmas.List.{append_assoc, append-nil, length-append, length-map, map-append, take_at, take-map}
 use Rattle.host.specs.Meaning.{ValueMeaning}
 use Rattle.names.specs.Laws.{Grown, Lasting, Same, lasting}
-use Rattle.names.specs.Rules.{bound, close_all, close_scope, open_scope, root_names_lem}
+use Rattle.names.specs.Rules.{bound, close_all, close_scope, open_scope, root_names}
 use Rattle.names.specs.Scopes.{root_end}
 use Rattle.names.specs.State.{State}
 use Rattle.names.specs.declared.binding.Binding.{Binding}

@@ -2,7 +2,7 @@
 ghost use Rattle.std.specs.Prelude.{◌≡◌};
 ghost use Rattle.scalar.specs.Operators.{negation, logical_negation, complement, beside, stepped, operators};
 ghost use Rattle.std.proofs.Common.{rules};
-ghost use Rattle.scalar.specs.Laws.{both-sound};
+ghost use Rattle.scalar.specs.Laws.{both_sound};
 
 use crate::values::Scalars;
 use arithmetic::{are_equal, have_same_type, operate};
@@ -69,7 +69,7 @@ impl Operators for Scalars {
         record {
           literals = Prim.search rules;
           unaries = Prim.search rules;
-          binaries = λ s op v w. both-sound s op (beside v w) (beside w v);
+          binaries = λ s op v w. both_sound s op (beside v w) (beside w v);
           sames = Prim.search rules;
           ups = Prim.search rules;
           downs = Prim.search rules;

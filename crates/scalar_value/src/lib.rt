@@ -1,3 +1,4 @@
+#![tactic(auto)]
 // Scalars: booleans and integers, as numbers of a type and as fields.
 pub mod field;
 pub mod number;

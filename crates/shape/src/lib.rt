@@ -1,3 +1,4 @@
+#![tactic(auto)]
 // What the body of each tag looks like: the one table by which bodies are walked and children are checked.
 ghost use Rattle.std.specs.Prelude.{◌≡◌, slice_index_or};
 ghost use Rattle.shape.specs.declared.Field.TheVariants.{Absent};

@@ -1,3 +1,4 @@
+#![tactic(auto)]
 // The words of WGSL that a book writes as numbers: operators and kinds of declaration.
 ghost use Rattle.std.specs.Prelude.{◌≡◌, codes};
 ghost use Rattle.std.specs.List.{slice_get};

@@ -1,3 +1,4 @@
+#![tactic(auto)]
 // A host of flags, counts, weights and prices.
 pub mod operators;
 pub mod values;

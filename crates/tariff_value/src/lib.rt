@@ -1,3 +1,4 @@
+#![tactic(auto)]
 // Values of a tariff: flags, counts, weights and prices, as numbers of a type and as fields.
 pub mod field;
 pub mod number;

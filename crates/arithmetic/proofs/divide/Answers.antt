@@ -16,7 +16,7 @@ returns-in-Some c = let e = c.in-Some.ensures in grind (arith, to_z-of_z, nat_te
 pub returns-in-None : goal.returns-in-None
 returns-in-None c =
     let same = wide_is _ c.ranges.m in
-    let dividend = c.wrap-into-in-None.ensures.keeps (ap (inside c.args.t) same ∙ c.requires.0) ∙ ap (scalar c.args.t) same in
+    let dividend = c.wrap_into-in-None.ensures.keeps (ap (inside c.args.t) same ∙ c.requires.0) ∙ ap (scalar c.args.t) same in
     let divisor : c.args.n ≢ pos 0 = λ e. c.if-n-eq0.false (ap (of_z w64) e) in
     let none : within c.args.t (quot_z c.args.m c.args.n) ≡ None = let e = c.in-None.ensures in grind (arith, to_z-of_z) in
-    c.lenient-or-in-None.ensures ∙ ap (unless NegOverflow c.args.stage c.args.t) dividend ∙ sym (quotient-outside c.args.stage c.args.t c.args.m c.args.n divisor none)
+    c.lenient_or-in-None.ensures ∙ ap (unless NegOverflow c.args.stage c.args.t) dividend ∙ sym (quotient-outside c.args.stage c.args.t c.args.m c.args.n divisor none)

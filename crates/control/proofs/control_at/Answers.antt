@@ -4,4 +4,4 @@ use Rattle.control.proofs.control_at.Goals as goal
 
 pub returns : goal.returns
 unfolding control
-returns c = c.control-of.ensures ∙ ap control_of c.node.ensures.value
+returns c = c.control_of.ensures ∙ ap control_of c.node.ensures.value

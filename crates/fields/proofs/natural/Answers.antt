@@ -14,8 +14,8 @@ returns-then-bytes-eq0 c = record {
   undoes = λ n small e. let l = at_most_19 n _ small e in absurd (grind arith);
 }
 
-pub returns-then-bytes-gt-ONE-DIGIT : goal.returns-then-bytes-gt-ONE-DIGIT
-returns-then-bytes-gt-ONE-DIGIT c = record {
+pub returns-then-bytes-gt-ONE_DIGIT : goal.returns-then-bytes-gt-ONE_DIGIT
+returns-then-bytes-gt-ONE_DIGIT c = record {
   prints = tt;
   undoes = λ n small e. let one = no_zero_first n _ small e c.if-bytes-eq48.true in absurd (omega arith);
 }
@@ -26,14 +26,14 @@ returns-then-b-lt48 c = record {
   undoes = λ n small e. let d = digit_at_place n _ _ small e c.loop-b-test.true in absurd (elim c.then-b-lt48.branch [ then-b-lt48-via-then-b-lt48 w ↦ omega arith | then-b-lt48-via-else-b-lt48+then-b-gt57 w ↦ omega arith ]);
 }
 
-pub overflow-mul-n : goal.overflow-mul-n
-overflow-mul-n c =
-    let s = front_short _ _ _ c.loop-b-test.true c.if-bytes-gt-MOST-DIGITS.false c.loop-b.invariant.0 c.loop-b.invariant.1 in
+pub overflow_mul-n : goal.overflow_mul-n
+overflow_mul-n c =
+    let s = front_short _ _ _ c.loop-b-test.true c.if-bytes-gt-MOST_DIGITS.false c.loop-b.invariant.0 c.loop-b.invariant.1 in
     record { fits = omega arith }
 
-pub overflow-add-n : goal.overflow-add-n
-overflow-add-n c =
-    let s = front_short _ _ _ c.loop-b-test.true c.if-bytes-gt-MOST-DIGITS.false c.loop-b.invariant.0 c.loop-b.invariant.1 in
+pub overflow_add-n : goal.overflow_add-n
+overflow_add-n c =
+    let s = front_short _ _ _ c.loop-b-test.true c.if-bytes-gt-MOST_DIGITS.false c.loop-b.invariant.0 c.loop-b.invariant.1 in
     record { fits = omega arith }
 
 pub loop-b-preserved : goal.loop-b-preserved
@@ -45,7 +45,7 @@ loop-b-preserved c =
 pub returns : goal.returns
 returns c =
     let all : take c.loop-b.b-index c.args.bytes.now ≡ c.args.bytes.now = take_all _ _ c.loop-b-test.false in
-    let back = reads_back c.args.bytes.now c.loop-b.n (subst (AllDigits 10) all c.loop-b.invariant.0) (c.loop-b.invariant.1 ∙ ap (digits_value 10) all) (omega arith) c.if-bytes-gt-MOST-DIGITS.false (λ z. ⊎_elim (λ w. omega arith) (λ w. absurd (w z)) c.else-bytes-eq48.either) in
+    let back = reads_back c.args.bytes.now c.loop-b.n (subst (AllDigits 10) all c.loop-b.invariant.0) (c.loop-b.invariant.1 ∙ ap (digits_value 10) all) (omega arith) c.if-bytes-gt-MOST_DIGITS.false (λ z. ⊎_elim (λ w. omega arith) (λ w. absurd (w z)) c.else-bytes-eq48.either) in
     record {
       prints = back;
       undoes = λ n small e. ap Some (decimal_injective _ _ (omega arith) (omega arith) (back.1 ∙ sym e));

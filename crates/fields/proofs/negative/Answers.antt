@@ -3,12 +3,12 @@ use Rattle.std.specs.Fmt.{signed_decimal}
 use Rattle.fields.proofs.Decimal.{negative_from, negative_is}
 use Rattle.fields.proofs.negative.Goals as goal
 
-pub returns-in-default : goal.returns-in-default
-returns-in-default c = record {
+pub returns-in_default : goal.returns-in_default
+returns-in_default c = record {
   prints = tt;
   undoes = λ v f e.
       let k = negative_from v _ f e in
-      absurd (c.in-default.not-Some _ (c.natural.ensures.undoes (suc k.0) (omega arith) k.3));
+      absurd (c.in_default.not-Some _ (c.natural.ensures.undoes (suc k.0) (omega arith) k.3));
 }
 
 pub returns-then-n-eq0 : goal.returns-then-n-eq0

@@ -16,8 +16,8 @@ pub returns-then-entry-entries : goal.returns-then-entry-entries
 returns-then-entry-entries c =
     none_past c.args.book.now.words.now c.args.entry (omega (arith, c.entries.ensures))
 
-pub set-at-requires : goal.set-at-requires
-set-at-requires c =
+pub set_at-requires : goal.set_at-requires
+set_at-requires c =
     let ws = c.args.book.now.words.now in
     let w = loaded ws c.args.book.now.loaded in
     record { within = omega (arith, c.entries.ensures); room = w.few; filled = blank ws 4096 }

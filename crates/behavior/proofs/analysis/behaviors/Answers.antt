@@ -11,8 +11,8 @@ use Rattle.behavior.proofs.analysis.behaviors.Goals as goal
 pub loop-e-init : goal.loop-e-init
 loop-e-init c = (refl, blank c.args.book.now.words.now 4096, c.new-all.ensures.items)
 
-pub set-at-requires : goal.set-at-requires
-set-at-requires c =
+pub set_at-requires : goal.set_at-requires
+set_at-requires c =
     let ws = c.args.book.now.words.now in
     let w = loaded ws c.args.book.now.loaded in
     record {
@@ -24,11 +24,11 @@ set-at-requires c =
 pub loop-e-preserved : goal.loop-e-preserved
 loop-e-preserved c =
     let ws = c.args.book.now.words.now in
-    let pushed = chosen _ _ _ _ c.push.ensures.items (ap is_ok c.in-ok-push.was) in (
-      c.set-at.auto.known ∙ c.loop-e.invariant.0,
-      c.set-at.ensures.filled,
-      pushed ∙ ap (λ l. l ++ (c.set-at.result ∷ [])) c.loop-e.invariant.2
-          ∙ ap (λ x. map (behavior_at ws) (range_with_len 0 c.loop-e.e) ++ (x ∷ [])) c.set-at.ensures.value
+    let pushed = chosen _ _ _ _ c.push.ensures.items (ap is_ok c.in_ok-push.was) in (
+      c.set_at.auto.known ∙ c.loop-e.invariant.0,
+      c.set_at.ensures.filled,
+      pushed ∙ ap (λ l. l ++ (c.set_at.result ∷ [])) c.loop-e.invariant.2
+          ∙ ap (λ x. map (behavior_at ws) (range_with_len 0 c.loop-e.e) ++ (x ∷ [])) c.set_at.ensures.value
           ∙ sym (map-range_with_len_more (behavior_at ws) 0 c.loop-e.e c.loop-e.e (omega arith)),
     )
 

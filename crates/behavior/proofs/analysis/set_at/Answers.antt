@@ -10,10 +10,10 @@ pub returns : goal.returns
 unfolding summary
 returns c =
     let ws = c.args.book.now.words.now in
-    let statement : is_statement (control ws c.args.entry) ≡ true = sym (ap is_statement c.control-at.ensures) ∙ sym c.is-statement.ensures ∙ c.if-not-is-statement.false in
+    let statement : is_statement (control ws c.args.entry) ≡ true = sym (ap is_statement c.control_at.ensures) ∙ sym c.is_statement.ensures ∙ c.if-not-is_statement.false in
     record {
       value =
-          ap (λ (s : Summary). Some s.behavior) c.summary-of.ensures.value
+          ap (λ (s : Summary). Some s.behavior) c.summary_of.ensures.value
           ∙ sym (cond-true (is_statement (control ws c.args.entry)) (Some (behavior ws c.args.entry)) _ statement);
-      filled = c.summary-of.ensures.filled;
+      filled = c.summary_of.ensures.filled;
     }

@@ -6,26 +6,26 @@ use Rattle.behavior.specs.Summaries.{Filled, bare_set, clauses_from, list_from}
 use Rattle.behavior.proofs.summary.+summarize_summary_of_summary_of_clauses_summary_of_list.Given as goal
 
 -- the distance from the entry to the number of entries, and the rank of the function
-abbrev pub decreases-summary-of : goal.decreases-summary-of
-decreases-summary-of l = 3 * (entries l.book.now.words.now - l.initial)
+abbrev pub decreases-summary_of : goal.decreases-summary_of
+decreases-summary_of l = 3 * (entries l.book.now.words.now - l.initial)
 
 abbrev pub decreases-summarize : goal.decreases-summarize
 decreases-summarize l = 3 * (entries l.book.now.words.now - l.initial) - 1
 
-abbrev pub decreases-summary-of-list : goal.decreases-summary-of-list
-decreases-summary-of-list l = 3 * (entries l.book.now.words.now - l.initial) - 2
+abbrev pub decreases-summary_of_list : goal.decreases-summary_of_list
+decreases-summary_of_list l = 3 * (entries l.book.now.words.now - l.initial) - 2
 
-abbrev pub decreases-summary-of-clauses : goal.decreases-summary-of-clauses
-decreases-summary-of-clauses l = 3 * (entries l.book.now.words.now - l.initial) - 2
+abbrev pub decreases-summary_of_clauses : goal.decreases-summary_of_clauses
+decreases-summary_of_clauses l = 3 * (entries l.book.now.words.now - l.initial) - 2
 
-abbrev pub invariant-summary-of-list-loop-i : goal.invariant-summary-of-list-loop-i
-invariant-summary-of-list-loop-i l =
+abbrev pub invariant-summary_of_list-loop-i : goal.invariant-summary_of_list-loop-i
+invariant-summary_of_list-loop-i l =
     (entries l.book.words.now ≤ length l.known) × Filled l.book.words.now l.known
-    × (list_from l.book.words.now l.so-far (drop l.i (listed l.book.words.now l.items))
+    × (list_from l.book.words.now l.so_far (drop l.i (listed l.book.words.now l.items))
     ≡ list_from l.book.words.now (bare_set only_next) (listed l.book.words.now l.items))
 
-abbrev pub invariant-summary-of-clauses-loop-i : goal.invariant-summary-of-clauses-loop-i
-invariant-summary-of-clauses-loop-i l =
+abbrev pub invariant-summary_of_clauses-loop-i : goal.invariant-summary_of_clauses-loop-i
+invariant-summary_of_clauses-loop-i l =
     (entries l.book.words.now ≤ length l.known) × Filled l.book.words.now l.known
-    × (clauses_from l.book.words.now l.so-far (drop l.i (paired l.book.words.now l.clauses))
-    ≡ clauses_from l.book.words.now l.initial.so-far (paired l.book.words.now l.clauses))
+    × (clauses_from l.book.words.now l.so_far (drop l.i (paired l.book.words.now l.clauses))
+    ≡ clauses_from l.book.words.now l.initial.so_far (paired l.book.words.now l.clauses))

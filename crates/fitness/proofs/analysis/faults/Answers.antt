@@ -11,8 +11,8 @@ use Rattle.fitness.proofs.analysis.faults.Goals as goal
 pub loop-e-init : goal.loop-e-init
 loop-e-init c = (refl, blank c.args.book.now.words.now 4096, c.new-all.ensures.items)
 
-pub fault-at-requires : goal.fault-at-requires
-fault-at-requires c =
+pub fault_at-requires : goal.fault_at-requires
+fault_at-requires c =
     let ws = c.args.book.now.words.now in
     let w = loaded ws c.args.book.now.loaded in
     record {
@@ -24,11 +24,11 @@ fault-at-requires c =
 pub loop-e-preserved : goal.loop-e-preserved
 loop-e-preserved c =
     let ws = c.args.book.now.words.now in
-    let pushed = chosen _ _ _ _ c.push.ensures.items (ap is_ok c.in-ok-push.was) in (
-      c.fault-at.auto.known ∙ c.loop-e.invariant.0,
-      c.fault-at.ensures.filled,
-      pushed ∙ ap (λ l. l ++ (c.fault-at.result ∷ [])) c.loop-e.invariant.2
-          ∙ ap (λ x. map (fault_at ws) (range_with_len 0 c.loop-e.e) ++ (x ∷ [])) c.fault-at.ensures.value
+    let pushed = chosen _ _ _ _ c.push.ensures.items (ap is_ok c.in_ok-push.was) in (
+      c.fault_at.auto.known ∙ c.loop-e.invariant.0,
+      c.fault_at.ensures.filled,
+      pushed ∙ ap (λ l. l ++ (c.fault_at.result ∷ [])) c.loop-e.invariant.2
+          ∙ ap (λ x. map (fault_at ws) (range_with_len 0 c.loop-e.e) ++ (x ∷ [])) c.fault_at.ensures.value
           ∙ sym (map-range_with_len_more (fault_at ws) 0 c.loop-e.e c.loop-e.e (omega arith)),
     )
 

@@ -15,8 +15,8 @@ loop-e-init c =
     let n : c.entries-e-end.result - 0 ≡ entries ws = omega (arith, c.entries-e-end.ensures) in
     (refl, blank ws 4096, ap (first_some (fault_at ws) 0) n)
 
-pub fault-at-requires : goal.fault-at-requires
-fault-at-requires c =
+pub fault_at-requires : goal.fault_at-requires
+fault_at-requires c =
     let ws = c.args.book.now.words.now in
     let w = loaded ws c.args.book.now.loaded in
     record {
@@ -39,9 +39,9 @@ pub loop-e-preserved : goal.loop-e-preserved
 loop-e-preserved c =
     let ws = c.args.book.now.words.now in
     let w = loaded ws c.args.book.now.loaded in (
-      c.fault-at.auto.known ∙ c.loop-e.invariant.0,
-      c.fault-at.ensures.filled,
-      first_more (fault_at ws) c.loop-e.e c.entries-e-end.result (omega arith) (sym c.in-default.ensures.value) ∙ c.loop-e.invariant.2,
+      c.fault_at.auto.known ∙ c.loop-e.invariant.0,
+      c.fault_at.ensures.filled,
+      first_more (fault_at ws) c.loop-e.e c.entries-e-end.result (omega arith) (sym c.in_default.ensures.value) ∙ c.loop-e.invariant.2,
     )
 
 pub returns : goal.returns

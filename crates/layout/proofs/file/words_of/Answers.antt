@@ -8,7 +8,7 @@ pub loop-k-preserved : goal.loop-k-preserved
 loop-k-preserved c =
     let bs = c.args.bytes.now in
     let k = c.loop-k.k in
-    let pushed = chosen _ _ _ _ c.push.ensures.items (ap is_ok c.in-ok-push.was) in
+    let pushed = chosen _ _ _ _ c.push.ensures.items (ap is_ok c.in_ok-push.was) in
     let more = word_more bs k (omega arith) in
     ap (λ l. l ++ words_of (drop (2 * (k + 1)) bs)) pushed
     ∙ append_assoc (vec_items c.loop-k.words) _ (words_of (drop (2 * (k + 1)) bs))

@@ -6,5 +6,5 @@ use Rattle.layout.proofs.walk.construct_at.Goals as goal
 
 pub returns : goal.returns
 returns c =
-    ap (λ (s : Shape). s.construct) c.shape-at.ensures
+    ap (λ (s : Shape). s.construct) c.shape_at.ensures
     ∙ construct_of_shape (construct c.args.words.now c.args.p)

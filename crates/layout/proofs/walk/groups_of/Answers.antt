@@ -5,7 +5,7 @@ use Rattle.layout.proofs.walk.groups_of.Goals as goal
 pub returns-then-shape-eq0 : goal.returns-then-shape-eq0
 returns-then-shape-eq0 c =
     record {
-      value = groups_none c.args.words.now c.args.p _ c.shape-at-shape.ensures c.if-shape-eq0.true;
+      value = groups_none c.args.words.now c.args.p _ c.shape_at-shape.ensures c.if-shape-eq0.true;
       bound = omega arith;
     }
 
@@ -13,7 +13,7 @@ pub returns-else-shape-eq0 : goal.returns-else-shape-eq0
 returns-else-shape-eq0 c =
     record {
       value =
-          groups-some c.args.words.now c.args.p _ c.shape-at-shape.ensures _ c.if-shape-eq0.false
+          groups-some c.args.words.now c.args.p _ c.shape_at-shape.ensures _ c.if-shape-eq0.false
           c.word.ensures;
       bound = omega arith;
     }

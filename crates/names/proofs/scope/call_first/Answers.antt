@@ -12,4 +12,4 @@ returns-in-Call c = let b = call_first_back c.args.scopes.now c.loop-i.i c.loop-
 pub loop-i-preserved : goal.loop-i-preserved
 loop-i-preserved c =
     c.loop-i.invariant ∙ call_first_back c.args.scopes.now c.loop-i.i c.loop-i-test.true (omega arith)
-    ∙ if_call_other _ _ _ c.in-default.not-Call
+    ∙ if_call_other _ _ _ c.in_default.not-Call

@@ -5,6 +5,6 @@ use Rattle.layout.specs.First.{first_some}
 use Rattle.layout.specs.Verdict.{child_fault, layout_fault, refusal}
 use Rattle.book.proofs.book.Book.empty.Goals as goal
 
-pub invariant-of-result : goal.invariant-of-result
+pub invariant_of-result : goal.invariant_of-result
 unfolding refusal first_some layout_fault child_fault body_passes groups_pass run_passes groups end shape_of fields_of construct_of
-invariant-of-result c = (refl, tt)
+invariant_of-result c = (refl, tt)

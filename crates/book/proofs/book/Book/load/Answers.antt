@@ -5,21 +5,21 @@ use Rattle.layout.specs.Verdict.{verdict}
 use Rattle.layout.proofs.Accepted.{judged}
 use Rattle.book.proofs.book.Book.load.Goals as goal
 
-pub returns-in-err-judge : goal.returns-in-err-judge
-returns-in-err-judge c =
+pub returns-in_err-judge : goal.returns-in_err-judge
+returns-in_err-judge c =
     let ws = c.args.words.now in
-    let p = err_from_is_err_and c.from-residual.result c.from-residual.ensures.1 in
-    let e : c.from-residual.result ≡ Err c.in-err-judge.field-0.0 = p.1 ∙ ap Err p.2 in
-    let v : c.from-residual.result ≡ verdict ws = e ∙ sym c.in-err-judge.was ∙ c.judge.ensures.verdict in
-    let bad : is_ok c.from-residual.result ≡ false = ap is_ok e in
+    let p = err_from_is_err_and c.from_residual.result c.from_residual.ensures.1 in
+    let e : c.from_residual.result ≡ Err c.in_err-judge.field-0.0 = p.1 ∙ ap Err p.2 in
+    let v : c.from_residual.result ≡ verdict ws = e ∙ sym c.in_err-judge.was ∙ c.judge.ensures.verdict in
+    let bad : is_ok c.from_residual.result ≡ false = ap is_ok e in
     record {
       verdict = v;
       accepted = judged ws _ v;
-      words = sym (cond-false (is_ok c.from-residual.result) _ _ bad);
+      words = sym (cond-false (is_ok c.from_residual.result) _ _ bad);
     }
 
 pub returns : goal.returns
 returns c =
     let ws = c.args.words.now in
-    let v = sym c.in-ok-judge.was ∙ c.judge.ensures.verdict in
+    let v = sym c.in_ok-judge.was ∙ c.judge.ensures.verdict in
     record { verdict = v; accepted = judged ws _ v; words = refl }

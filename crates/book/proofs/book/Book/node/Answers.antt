@@ -23,13 +23,13 @@ returns-then-entry-entries c =
       children = tt;
     }
 
-pub returns-in-err-construct : goal.returns-in-err-construct
-returns-in-err-construct c =
+pub returns-in_err-construct : goal.returns-in_err-construct
+returns-in_err-construct c =
     let ws = c.args.self.now.words.now in
     let n = c.entries.ensures in
     let within : c.args.entry < entries ws = omega arith in
-    let none = node_within ws c.args.entry within c.word-at.result c.word-at.ensures None (sym c.in-err-construct.was ∙ c.construct-at.ensures) in
-    let value : c.from-residual.result ≡ node_at ws c.args.entry = c.from-residual.ensures ∙ sym none in
+    let none = node_within ws c.args.entry within c.word-at.result c.word-at.ensures None (sym c.in_err-construct.was ∙ c.construct_at.ensures) in
+    let value : c.from_residual.result ≡ node_at ws c.args.entry = c.from_residual.ensures ∙ sym none in
     record { value = value; children = family ws c.args.entry _ (loaded ws c.args.self.now.loaded) value; every = ap is_some value ∙ every_entry ws c.args.entry (loaded ws c.args.self.now.loaded) within ∙ sym (lt-ltb c.args.entry (entries ws) within) }
 
 pub returns : goal.returns
@@ -37,6 +37,6 @@ returns c =
     let ws = c.args.self.now.words.now in
     let n = c.entries.ensures in
     let within : c.args.entry < entries ws = omega arith in
-    let node = node_within ws c.args.entry within c.word-at.result c.word-at.ensures (Some c.in-ok-construct.construct) (sym c.in-ok-construct.was ∙ c.construct-at.ensures) in
-    let value : c.node-of.result ≡ node_at ws c.args.entry = c.node-of.ensures ∙ sym node in
+    let node = node_within ws c.args.entry within c.word-at.result c.word-at.ensures (Some c.in_ok-construct.construct) (sym c.in_ok-construct.was ∙ c.construct_at.ensures) in
+    let value : c.node_of.result ≡ node_at ws c.args.entry = c.node_of.ensures ∙ sym node in
     record { value = value; children = family ws c.args.entry _ (loaded ws c.args.self.now.loaded) value; every = ap is_some value ∙ every_entry ws c.args.entry (loaded ws c.args.self.now.loaded) within ∙ sym (lt-ltb c.args.entry (entries ws) within) }

@@ -7,5 +7,5 @@ use Rattle.names.proofs.names.Names.lookup.Goals as goal
 pub returns : goal.returns
 returns g c =
     let n = c.args.self.now in
-    let e = lookup_root n c.root-end.result c.root-end.ensures.value c.root-end.ensures.within (omega arith) c.args.name c.in-default.ensures in
-    c.ok-or.ensures.value ∙ ap (λ o. ok_or o UnknownDecl) c.newest-from-2.ensures ∙ e
+    let e = lookup_root n c.root_end.result c.root_end.ensures.value c.root_end.ensures.within (omega arith) c.args.name c.in_default.ensures in
+    c.ok_or.ensures.value ∙ ap (λ o. ok_or o UnknownDecl) c.newest_from-2.ensures ∙ e

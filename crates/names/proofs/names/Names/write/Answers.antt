@@ -11,15 +11,15 @@ bounds-self-place g c =
     let h = place-bound n c.args.place c.in-Some.binding c.in-Some.ensures in
     omega (arith, n.room, n.fits)
 
-pub offset-bounds-self-place : goal.offset-bounds-self-place
-offset-bounds-self-place g c = let h : c.args.place < length c.args.self.now.table.now = bounds-self-place g c in search rules
+pub offset_bounds-self-place : goal.offset_bounds-self-place
+offset_bounds-self-place g c = let h : c.args.place < length c.args.self.now.table.now = bounds-self-place g c in search rules
 
 pub returns : goal.returns
 returns g c =
     let n = c.args.self.now in
     let m = g.H.Values.means c.args.host.now in
     let is = c.in-Some.ensures in
-    let typed = sym c.type-of.ensures ∙ c.if-type-of.false ∙ c.type-of-2.ensures in
+    let typed = sym c.type_of.ensures ∙ c.if-type_of.false ∙ c.type_of-2.ensures in
     let e = write_is n c.args.place c.in-Some.binding is m c.args.value typed in
     record {
       answer = sym (ap answered e);

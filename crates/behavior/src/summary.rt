@@ -147,7 +147,7 @@ fn has_default(book: &Book, clauses: Pairs) -> bool
 }
 
 // The summary of an entry, from the table, or else made and kept there.
-#[cycle(summarize_summary_of_summary_of_clauses_summary_of_list)]
+#[cycle(summaries)]
 pub fn summary_of(book: &Book, known: &mut [Option<Summary>], entry: u16) -> Summary
     requires within { entry < entries book.now.words.now }
     requires room { entries book.now.words.now ≤ length known.old }
@@ -164,7 +164,7 @@ pub fn summary_of(book: &Book, known: &mut [Option<Summary>], entry: u16) -> Sum
 }
 
 // The summary of an entry from those of its children.
-#[cycle(summarize_summary_of_summary_of_clauses_summary_of_list)]
+#[cycle(summaries)]
 fn summarize(book: &Book, known: &mut [Option<Summary>], entry: u16) -> Summary
     requires within { entry < entries book.now.words.now }
     requires room { entries book.now.words.now ≤ length known.old }
@@ -209,7 +209,7 @@ fn summarize(book: &Book, known: &mut [Option<Summary>], entry: u16) -> Summary
 }
 
 // The statements of a list in turn; each stands after the entry.
-#[cycle(summarize_summary_of_summary_of_clauses_summary_of_list)]
+#[cycle(summaries)]
 fn summary_of_list(book: &Book, known: &mut [Option<Summary>], entry: u16, items: Items) -> Summary
     requires follow { Follows book.now.words.now entry (Sequence items) }
     requires within { entry < entries book.now.words.now }
@@ -232,7 +232,7 @@ fn summary_of_list(book: &Book, known: &mut [Option<Summary>], entry: u16, items
 }
 
 // The bodies of clauses joined to a summary so far; each stands after the entry.
-#[cycle(summarize_summary_of_summary_of_clauses_summary_of_list)]
+#[cycle(summaries)]
 fn summary_of_clauses(
     book: &Book,
     known: &mut [Option<Summary>],

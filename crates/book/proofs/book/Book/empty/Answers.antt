@@ -7,4 +7,4 @@ use Rattle.book.proofs.book.Book.empty.Goals as goal
 
 pub invariant_of-result : goal.invariant_of-result
 unfolding refusal first_some layout_fault child_fault body_passes groups_pass run_passes groups end shape_of fields_of construct_of
-invariant_of-result c = (refl, tt)
+invariant_of-result c = record { loaded = refl }

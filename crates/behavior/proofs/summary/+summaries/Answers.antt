@@ -12,7 +12,7 @@ use Rattle.control.specs.declared.Control.TheVariants.{Continuing, Forever, Func
 use Rattle.behavior.proofs.Openings.{follow-at}
 use Rattle.behavior.proofs.Summed.{of_break, of_continue, of_continuing, of_forever, of_function, of_if, of_if_else, of_loop, of_loop_continuing, of_other, of_plain, of_return, of_sequence, of_switch, of_while}
 use Rattle.behavior.proofs.Walked.{clauses-end, clauses_more, clauses-none, kept, list_end, list_more, list_none}
-use Rattle.behavior.proofs.summary.+summarize_summary_of_summary_of_clauses_summary_of_list.Goals as goal
+use Rattle.behavior.proofs.summary.+summaries.Goals as goal
 
 pub summarize-summary_of-requires-in-While : goal.summarize-summary_of-requires-in-While
 summarize-summary_of-requires-in-While t c =

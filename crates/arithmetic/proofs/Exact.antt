@@ -1,9 +1,8 @@
 -- Exact results in 128 bits, of numbers of 64 bits.
-use Rattle.std.proofs.Common.{◌≡◌, ℕ, zero, suc, ◌/◌, ◌%◌, ◌<◌, ◌≤◌, true, ◌≢◌, ℤ, pos, negsuc, ◌*ℤ◌, neg_ℤ, nat_abs, None, Ok, ap, ◌∙◌, div-le_self, arith, w64, SFits, to_z, of_z}
+use Rattle.std.proofs.Common.{◌≡◌, ℕ, suc, ◌/◌, ◌≤◌, true, ◌≢◌, ℤ, pos, negsuc, neg_ℤ, nat_abs, None, Ok, ◌∙◌, div-le_self, arith, w64, SFits, to_z, of_z}
 use native.Mathlib.Nat.{mod-le}
 use lib.Signed.{quot_z, rem_z}
 use mir.Syntax.{w128}
-use borrow.Author.Numbers.{signed_product}
 use Rattle.std.proofs.lemmas.Int.{ints, to_z-of_z}
 use Rattle.std.proofs.lemmas.Bool.Decides.{nat_tests}
 use Rattle.scalar_value.specs.declared.ScalarType.{ScalarType}

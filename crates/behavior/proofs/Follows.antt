@@ -1,16 +1,15 @@
 -- The children of an entry come after it.
-use Rattle.std.proofs.Common.{◌≡◌, ℕ, zero, suc, ◌<◌, Bool, true, false, List, [], ◌∷◌, ◌++◌, IfSome, Some, None, Option, sym, refl, ap, ◌∙◌, subst, arith}
+use Rattle.std.proofs.Common.{◌≡◌, ℕ, zero, suc, List, [], ◌∷◌, ◌++◌, IfSome, Some, None, Option, refl, subst, arith}
 use Rattle.std.specs.Option.{option_to_list}
 use Rattle.std.specs.List.{slice_get}
 use Rattle.book.specs.Children.{Children, IsChild, MayBeChild}
-use Rattle.layout.specs.Layout.{entries}
-use Rattle.book.specs.Nodes.{listed, node_at, paired}
+use Rattle.book.specs.Nodes.{paired}
 use Rattle.book.specs.declared.node.Node.{Node}
 use Rattle.book.specs.declared.node.Node.TheVariants as N
 use Rattle.shape.specs.declared.Child.{Child}
 use Rattle.shape.specs.declared.Child.TheVariants as C
 use Rattle.behavior.specs.Below.{children_of, seconds}
-use Rattle.control.specs.Control.{control, control_of, for_of}
+use Rattle.control.specs.Control.{control_of, for_of}
 use Rattle.behavior.specs.Summaries.{After, BodiesFollow, Follows, MayFollow}
 use Rattle.control.specs.declared.Control.{Control}
 use Rattle.control.specs.declared.Control.TheVariants.{Break, Continue, Continuing, Forever, Function, If, Loop, Other, Plain, Return, Sequence, Switch, While}

@@ -1,5 +1,5 @@
 -- The set of an entry, and the least entry below it, in terms of its children.
-use Rattle.std.proofs.Common.{◌≡◌, ℕ, zero, suc, ◌-◌, ◌<◌, Bool, true, false, cond, not, List, [], ◌∷◌, Some, None, Option, sym, refl, ap, ◌∙◌, subst}
+use Rattle.std.proofs.Common.{◌≡◌, ℕ, suc, ◌<◌, Bool, true, cond, not, List, [], ◌∷◌, Some, None, Option, sym, refl, ap, ◌∙◌, subst}
 use Rattle.std.specs.List.{slice_get}
 use Rattle.layout.specs.Layout.{entries}
 use Rattle.book.specs.Nodes.{listed, node_at, paired}
@@ -8,13 +8,13 @@ use Rattle.layout.specs.Verdict.{accepted}
 use Rattle.layout.proofs.Accepted.{loaded}
 use Rattle.book.proofs.Family.{children_of_lem}
 use Rattle.behavior.specs.Below.{children_of, earlier, earliest, least, least_of}
-use Rattle.control.specs.Control.{control, control_of}
-use Rattle.behavior.specs.Rules.{behavior, behavior_of, descend, else_of, exits_by, followed, forever, has_default, in_turn, joined, looped, none, only_next, plus_next, tested, turned, union}
+use Rattle.control.specs.Control.{control}
+use Rattle.behavior.specs.Rules.{behavior, behavior_of, else_of, exits_by, followed, forever, has_default, in_turn, joined, looped, none, only_next, plus_next, tested, turned, union}
 use Rattle.control.specs.declared.Control.{Control}
 use Rattle.control.specs.declared.Control.TheVariants.{Break, Continue, Continuing, Forever, Function, If, Loop, Other, Plain, Return, Sequence, Switch, While}
 use Rattle.behavior.specs.declared.set.Behavior.{Behavior}
 use Rattle.behavior.proofs.Descents.{Local, opened}
-use Rattle.behavior.specs.Summaries.{After, BodiesFollow, Follows, MayFollow}
+use Rattle.behavior.specs.Summaries.{Follows, MayFollow}
 use Rattle.behavior.proofs.Follows.{child_follows, follows}
 
 -- folds over lists at which two functions agree

@@ -1,17 +1,16 @@
 -- The summary of an entry from those of its children, case by case.
-use Rattle.std.proofs.Common.{◌≡◌, ℕ, zero, suc, ◌-◌, ◌<◌, Bool, true, false, cond, not, List, [], ◌∷◌, Some, None, Option, sym, refl, ap, ◌∙◌, subst}
+use Rattle.std.proofs.Common.{◌≡◌, ℕ, ◌<◌, Bool, true, false, not, List, [], ◌∷◌, Some, None, sym, refl, ap, ◌∙◌}
 use Rattle.layout.specs.Layout.{entries}
 use Rattle.book.specs.Nodes.{listed, paired}
 use Rattle.layout.specs.WellFormed.{WellFormed}
 use Rattle.book.specs.declared.node.Items.{Items}
 use Rattle.book.specs.declared.node.Pairs.{Pairs}
-use Rattle.behavior.specs.Below.{children_of, earlier, earliest, is_bare, is_leaving, is_valued, least, leaving, returning, seconds}
+use Rattle.behavior.specs.Below.{earliest, is_bare, is_leaving, is_valued, least, seconds}
 use Rattle.control.specs.Control.{control}
-use Rattle.behavior.specs.Rules.{behavior, behavior_of, beyond_next, exits_by, forever, has_default, in_turn, joined, looped, none, only_next, plus_next, tested, turned}
+use Rattle.behavior.specs.Rules.{behavior, exits_by, forever, has_default, in_turn, joined, looped, none, only_next, plus_next, tested, turned}
 use Rattle.behavior.specs.Summaries.{bare_set, clauses_from, continuing_summary, list_from, return_summary, summary, summary_of, with_set}
 use Rattle.control.specs.declared.Control.{Control}
 use Rattle.control.specs.declared.Control.TheVariants.{Break, Continue, Continuing, Forever, Function, If, Loop, Other, Plain, Return, Sequence, Switch, While}
-use Rattle.behavior.specs.declared.set.Behavior.{Behavior}
 use Rattle.behavior.specs.declared.summary.Summary.{Summary}
 use Rattle.behavior.proofs.Openings.{opened-behavior, opened-least}
 

@@ -1,24 +1,22 @@
 -- The children of each node of a well formed book are what their fields take.
-use Rattle.std.proofs.Common.{◌≡◌, ℕ, zero, suc, ◌+◌, ◌-◌, ◌*◌, ◌<◌, ◌≤◌, Bool, true, false, cond, ◌&&◌, ◌||◌, eqb, ltb, ◌⊎◌, List, [], ◌∷◌, length, get_or, is_some, IfSome, Some, None, Option, sym, refl, ap, ◌∙◌, subst, inl, inr, ⊎_elim, one-mul, mul-one, arith}
+use Rattle.std.proofs.Common.{◌≡◌, ℕ, suc, ◌+◌, ◌-◌, ◌*◌, ◌<◌, true, ◌||◌, eqb, ltb, List, length, get_or, IfSome, Some, None, Option, sym, refl, ap, ◌∙◌, subst, inl, inr, ⊎_elim, arith}
 use Rattle.std.specs.Option.{option_map}
 use Rattle.std.specs.List.{slice_get}
-use Rattle.std.proofs.lemmas.Bool.{and_parts, cases_lt, cond_both, cond-false, eq-eqb, eqb-false, eqb-true, ltb-true, ne_eqb, or_cases}
+use Rattle.std.proofs.lemmas.Bool.{and_parts, cases_lt, cond_both, cond-false, eqb-false, eqb-true, ltb-true, ne_eqb, or_cases}
 use Rattle.syntax.specs.Numbers.{binary_operators, declaration_kinds, short_circuits, unary_operators}
-use Rattle.shape.specs.Shapes.{fields_of, shape_of, takes}
+use Rattle.shape.specs.Shapes.{fields_of, shape_of}
 use Rattle.shape.specs.declared.Child.{Child}
 use Rattle.shape.specs.declared.Child.TheVariants as C
 use Rattle.shape.specs.declared.Construct.{Construct}
 use Rattle.shape.specs.declared.Construct.TheVariants.{Unit as UnitEntry, Empty, Compound, Assignment, Increment, Decrement, If, Switch, Loop, For, While, Break, Continue, Return, Discard, CallStatement, ConstAssert, Declaration, Continuing, Literal, Parenthesized, Unary, Binary, Name, Call, Function}
 use Rattle.shape.specs.declared.Field.{Field}
 use Rattle.shape.specs.declared.Field.TheVariants as F
-use Rattle.shape.specs.declared.Shape.{Shape}
 use Rattle.book.specs.Children.{AreChildren, Children, HaveBodies, HaveConditions, HaveSelectors, IsChild, MayBeChild}
-use Rattle.layout.specs.Layout.{construct, entries, field, groups, groups_from, place, shape, tail, tail_from}
+use Rattle.layout.specs.Layout.{construct, entries, field, groups, groups_from, place, shape, tail_from}
 use Rattle.book.specs.Nodes.{decode, items, listed, node_at, optional, paired, pairs}
 use Rattle.layout.specs.Verdict.{child_fits, is_child}
 use Rattle.layout.specs.WellFormed.{EachField, WellFormed}
 use Rattle.book.specs.declared.node.Node.{Node}
-use Rattle.book.specs.declared.node.Node.TheVariants as N
 use Rattle.book.proofs.Reading.{listed_at, listed_past, node_past, node_within, paired_at, paired_past}
 
 module _ (ws : List ℕ) (e : ℕ) where

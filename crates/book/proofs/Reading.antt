@@ -1,12 +1,12 @@
 -- The laws of reading: lists of a book, and that every entry of a well formed book is a node.
-use Rattle.std.proofs.Common.{◌≡◌, ℕ, zero, suc, ◌+◌, ◌-◌, ◌*◌, ◌<◌, ◌≤◌, min, Bool, true, false, cond, ◌&&◌, eqb, ltb, leb, ◌⊎◌, List, [], ◌∷◌, length, get_or, take, drop, is_some, Some, None, Option, sym, refl, ap, ◌∙◌, subst, inl, inr, ⊎_elim, arith, length-drop, length-take, get_or-drop, get_or-take}
+use Rattle.std.proofs.Common.{◌≡◌, ℕ, zero, suc, ◌+◌, ◌-◌, ◌*◌, ◌<◌, ◌≤◌, min, true, ◌&&◌, eqb, ltb, leb, ◌⊎◌, List, [], ◌∷◌, length, get_or, take, drop, is_some, Some, None, Option, sym, refl, ap, ◌∙◌, subst, ⊎_elim, arith, length-drop, length-take, get_or-drop, get_or-take}
 use Rattle.std.specs.Option.{option_map}
 use Rattle.std.specs.List.{slice_get}
 use Rattle.std.proofs.lemmas.Option.{slice_get-get_or, slice_get_past}
-use Rattle.std.proofs.lemmas.Bool.{and_parts, cases_eq, cases_lt, cond_both, cond-false, cond-true, leb-true, le-ltb, lt-ltb, ltb-false, ltb-true}
+use Rattle.std.proofs.lemmas.Bool.{and_parts, cond_both, cond-false, cond-true, leb-true, le-ltb, lt-ltb, ltb-false, ltb-true}
 use Rattle.syntax.specs.Numbers.{binary_operators, declaration_kinds, short_circuits, unary_operators}
-use Rattle.layout.specs.Layout.{construct, entries, field, place, shape}
-use Rattle.book.specs.Nodes.{assignment_node, binary_node, declaration_node, decode, listed, node_at, node_of, paired, twos, unary_node}
+use Rattle.layout.specs.Layout.{construct, entries, field, place}
+use Rattle.book.specs.Nodes.{assignment_node, binary_node, decode, listed, node_at, paired, twos}
 use Rattle.shape.specs.Shapes.{fields_of, fits, shape_of}
 use Rattle.layout.specs.WellFormed.{EachField, WellFormed}
 use Rattle.book.specs.declared.node.Items.{Items}
@@ -15,7 +15,6 @@ use Rattle.book.specs.declared.node.Node.TheVariants as N
 use Rattle.book.specs.declared.node.Pairs.{Pairs}
 use Rattle.shape.specs.declared.Construct.{Construct}
 use Rattle.shape.specs.declared.Construct.TheVariants.{Unit as UnitEntry, Empty, Compound, Assignment, Increment, Decrement, If, Switch, Loop, For, While, Break, Continue, Return, Discard, CallStatement, ConstAssert, Declaration, Continuing, Literal, Parenthesized, Unary, Binary, Name, Call, Function}
-use Rattle.shape.specs.declared.Field.{Field}
 use Rattle.shape.specs.declared.Field.TheVariants as F
 
 -- The n words from s on

@@ -1,5 +1,5 @@
 -- A fault names an entry that was begun, and blames a function whose body was.
-use Rattle.std.proofs.Common.{◌≡◌, ℕ, zero, suc, Some, None, Option, refl}
+use Rattle.std.proofs.Common.{ℕ, zero, suc, Some, None, Option}
 use Rattle.std.specs.Option.{option_or}
 use Rattle.drive.specs.Act.{Act, Lang, Shape, again, begin, end, stop}
 use Rattle.drive.specs.Blame.{IfAny, Knows, Owns, Stemmed, Stems}

@@ -1,7 +1,7 @@
 -- Every run of a language meets each claim that the language keeps.
-use Rattle.std.proofs.Common.{◌≡◌, ℕ, zero, suc, ◌<◌, ◌≤◌, None, Ok, Err, Option, Result, sym, refl, ap, ◌∙◌, subst, arith}
-use Rattle.drive.specs.Act.{Act, Lang, Round, Shape, again, begin, end, stop}
-use Rattle.drive.specs.Drive.{Fault, Res, Rounds, Sub, and_then, answer, blame, charge, done, enter, fault, faulty, go_on, opened, outside, perform, rounds, run, run_outside}
+use Rattle.std.proofs.Common.{◌≡◌, ℕ, zero, suc, ◌<◌, ◌≤◌, Option, refl, subst, arith}
+use Rattle.drive.specs.Act.{Act, Lang, Shape, again, begin, end, stop}
+use Rattle.drive.specs.Drive.{Res, Rounds, Sub, and_then, answer, blame, charge, done, enter, fault, go_on, opened, outside, perform, rounds, run, run_outside}
 use Rattle.drive.specs.Hoare.{Came, Claim, Goal, Keeps, Meets, Sound}
 use Rattle.drive.proofs.Law.{Down, Falls, enter_falls}
 

@@ -1,8 +1,8 @@
 -- The smallest-grant law of every language, and how a run goes on, act by act.
-use Rattle.std.proofs.Common.{◌≡◌, ℕ, zero, suc, ◌+◌, ◌-◌, ◌<◌, ◌≤◌, ◌⊎◌, None, Ok, Err, Option, Result, sym, refl, ap, ◌∙◌, subst, inl, inr, arith}
+use Rattle.std.proofs.Common.{◌≡◌, ℕ, zero, suc, ◌+◌, ◌-◌, ◌<◌, ◌≤◌, ◌⊎◌, Ok, Err, Option, sym, refl, ap, ◌∙◌, subst, inl, inr, arith}
 use native.Mathlib.Decide.{dec_le}
-use Rattle.drive.specs.Act.{Act, Lang, Round, Shape, again, begin, end, stop}
-use Rattle.drive.specs.Drive.{Answer, FailsBy, Fault, Res, Rounds, SmallestGrant, Sub, and_then, answer, blame, charge, done, enter, fault, faulty, go_on, opened, outside, perform, rounds, run, run_outside}
+use Rattle.drive.specs.Act.{Act, Lang, Shape, again, begin, end, stop}
+use Rattle.drive.specs.Drive.{FailsBy, Res, Rounds, SmallestGrant, Sub, and_then, answer, blame, charge, done, enter, fault, faulty, go_on, opened, outside, perform, rounds, run, run_outside}
 
 abbrev pub left_of : {A E S : Type 0} → Res A E S → ℕ
 left_of (done o s l) = l

@@ -1,9 +1,9 @@
 -- How one step of a machine keeps what its stack stands for.
-use Rattle.std.proofs.Common.{◌≡◌, ℕ, zero, suc, ◌-◌, ◌<◌, ◌≤◌, Some, None, Option, sym, refl, ap, ◌∙◌, subst, arith}
+use Rattle.std.proofs.Common.{◌≡◌, ℕ, suc, ◌-◌, ◌<◌, ◌≤◌, Some, None, Option, sym, refl, ap, ◌∙◌, arith}
 use native.Mathlib.Nat.{sub-zero}
 use Rattle.std.specs.Option.{option_or}
 use Rattle.drive.specs.Act.{Act, Lang, Shape, again, begin, end, stop}
-use Rattle.drive.specs.Drive.{Fault, Res, and_then, blame, charge, done, enter, fault, faulty, go_on, outside, perform}
+use Rattle.drive.specs.Drive.{Fault, Res, and_then, blame, charge, done, enter, fault, faulty, outside, perform}
 use Rattle.drive.specs.Stack.{Pending, Stack, acting, acts, blamed_by, height, must, outermost, push, settle, top, unwind}
 use Rattle.drive.proofs.Law.{enter_falls, go_on-again, go_on-begin, go_on-end, go_on-stop}
 

@@ -1,5 +1,5 @@
 -- Claims about every run of a language, and what each act of it has to keep for them to hold.
-use Rattle.std.specs.Prelude.{ℕ, Ok, Err, Result}
+use Rattle.std.specs.Prelude.{Ok, Err, Result}
 use Rattle.drive.specs.Act.{Act, Lang, Shape, again, begin, end, stop}
 use Rattle.drive.specs.Drive.{Fault, Res, done, fault, opened}
 

@@ -1,9 +1,9 @@
 -- What a stack of pending records stands for.
-use Rattle.std.specs.Prelude.{ℕ, zero, suc, ◌-◌, None, Option}
+use Rattle.std.specs.Prelude.{ℕ, suc, ◌-◌, None, Option}
 use Rattle.std.specs.Option.{option_or}
 use Rattle.drive.specs.Act.{Act, Lang, Shape, begin, end}
 use Rattle.drive.specs.Act as A
-use Rattle.drive.specs.Drive.{Res, and_then, blame, enter, faulty, go_on, opened, outside}
+use Rattle.drive.specs.Drive.{Res, and_then, blame, enter, go_on, opened, outside}
 
 -- A pending record: what was begun, the child that it waits for, and what it does with what the child ends with.
 pub record Pending (σ : Shape) : Type 1 where

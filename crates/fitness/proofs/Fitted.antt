@@ -1,5 +1,5 @@
 -- What is below an entry, and when a book is fit.
-use Rattle.std.proofs.Common.{◌≡◌, ℕ, zero, suc, ◌+◌, ◌-◌, ◌<◌, ◌≤◌, min, Bool, true, false, cond, not, ◌&&◌, ◌||◌, ◌⊎◌, List, [], ◌∷◌, Some, None, Option, sym, refl, ap, ◌∙◌, subst, inl, inr, ⊎_elim, arith}
+use Rattle.std.proofs.Common.{◌≡◌, ℕ, zero, suc, ◌-◌, ◌<◌, ◌≤◌, Bool, true, false, cond, not, ◌&&◌, ◌||◌, List, [], ◌∷◌, Some, None, Option, sym, refl, ap, ◌∙◌, arith}
 use Rattle.std.specs.Option.{option_map}
 use Rattle.std.specs.List.{slice_get}
 use Rattle.std.proofs.lemmas.Bool.{cond-false, or_from, or_parts, true≢false}
@@ -7,18 +7,15 @@ use Rattle.layout.specs.First.{first_some, or_else}
 use Rattle.layout.specs.Layout.{entries}
 use Rattle.layout.specs.WellFormed.{WellFormed}
 use Rattle.layout.proofs.Firsts.{each_first, first_each, neither}
-use Rattle.behavior.specs.Below.{Below, IsBelow, children_of, earlier, earliest, is_bare, is_leaving, is_valued, itself, least, least_of, leaving, returning, through}
+use Rattle.behavior.specs.Below.{Below, IsBelow, children_of, earlier, earliest, is_bare, is_leaving, is_valued, itself, least, leaving, returning, through}
 use Rattle.control.specs.Control.{control}
-use Rattle.fitness.specs.Fit.{Fit, FitFunction, continuing_fault, fault_at, fault_of, function_fault, unfit}
+use Rattle.fitness.specs.Fit.{Fit, FitFunction, fault_at, fault_of, function_fault, unfit}
 use Rattle.behavior.specs.Rules.{behavior, beyond_next}
 use Rattle.behavior.specs.Summaries.{After, summary}
 use Rattle.control.specs.declared.Control.{Control}
 use Rattle.control.specs.declared.Control.TheVariants.{Break, Continue, Continuing, Forever, Function, If, Loop, Other, Plain, Return, Sequence, Switch, While}
-use Rattle.fitness.specs.declared.fault.Reason.{Reason}
-use Rattle.fitness.specs.declared.fault.Reason.TheVariants.{BreakOrContinue, LeavingContinuing, MissingValue, NoReturn, UnexpectedValue}
+use Rattle.fitness.specs.declared.fault.Reason.TheVariants.{LeavingContinuing, MissingValue, UnexpectedValue}
 use Rattle.fitness.specs.declared.fault.Unfit.{Unfit}
-use Rattle.behavior.specs.declared.set.Behavior.{Behavior}
-use Rattle.behavior.specs.declared.summary.Summary.{Summary}
 use Rattle.behavior.proofs.Follows.{child_follows}
 use Rattle.behavior.proofs.Openings.{control_follows, opened-least}
 

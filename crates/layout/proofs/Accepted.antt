@@ -1,18 +1,17 @@
 -- The words that the walk accepts are the well formed ones.
-use Rattle.std.proofs.Common.{◌≡◌, ℕ, zero, suc, ◌+◌, ◌-◌, ◌*◌, ◌<◌, ◌≤◌, Bool, true, false, cond, not, ◌&&◌, ltb, List, length, get_or, is_some, is_ok, Some, None, Decides, Option, Result, sym, refl, ap, ◌∙◌, subst, ⊎_elim, mul-zero, mul-one, mul-add, arith}
-use Rattle.std.proofs.lemmas.Bool.{and_from, and_parts, cases_Bool, cases_eq, cond-false, cond-true, le-ltb, ltb-false, true≢false}
+use Rattle.std.proofs.Common.{◌≡◌, ℕ, zero, suc, ◌+◌, ◌-◌, ◌*◌, ◌<◌, Bool, true, false, cond, not, List, length, get_or, is_some, is_ok, Some, None, Decides, Option, Result, sym, refl, ap, ◌∙◌, ⊎_elim, mul-zero, mul-one, mul-add, arith}
+use Rattle.std.proofs.lemmas.Bool.{and_from, and_parts, cases_Bool, cases_eq, ltb-false, true≢false}
 use Rattle.layout.specs.First.{or_else}
 use Rattle.layout.specs.Layout.{body_passes, end, entries, field, groups, groups_from, groups_pass, place, run_passes, shape, tail, tail_from}
 use Rattle.shape.specs.Shapes.{fits}
 use Rattle.layout.specs.Verdict.{accepted, answer, at, child_fault, child_fits, first, layout_fault, left_over, refusal, sized, verdict}
 use Rattle.layout.specs.WellFormed.{EachField, WellFormed}
 use Rattle.layout.specs.declared.error.BookError.{BookError}
-use Rattle.layout.specs.declared.error.BookFault.{BookFault}
-use Rattle.layout.specs.declared.error.BookFault.TheVariants.{BadLength, BadPlace, WrongChild}
+use Rattle.layout.specs.declared.error.BookFault.TheVariants.{BadLength, WrongChild}
 use Rattle.shape.specs.declared.Field.{Field}
 use Rattle.layout.proofs.Bodies.{head-fits}
 use Rattle.layout.proofs.Firsts.{neither}
-use Rattle.layout.proofs.Refusals.{Laid, Sized, child_fine, each_first, first_each, laid, none_left, refused-children, refused-next, refused-sized, sizes, unlaid, unsized}
+use Rattle.layout.proofs.Refusals.{Laid, child_fine, each_first, first_each, laid, none_left, refused-children, refused-next, refused-sized, sizes, unlaid, unsized}
 
 module _ (t : Field → ℕ → Bool) (ws : List ℕ) (p : ℕ) where
   -- a run passes where each of its fields does

@@ -1,17 +1,15 @@
 -- The laws of the refusals: which test decides about an entry, and the first entry that is refused.
-use Rattle.std.proofs.Common.{◌≡◌, ℕ, zero, suc, ◌+◌, ◌-◌, ◌<◌, ◌≤◌, Bool, true, false, cond, not, ◌&&◌, ◌||◌, eqb, ltb, leb, ◌⊎◌, List, length, get_or, is_some, Some, None, Ok, Err, Option, Result, sym, refl, ap, ◌∙◌, subst, inl, inr, ⊎_elim, add-one, arith}
+use Rattle.std.proofs.Common.{◌≡◌, ℕ, ◌+◌, ◌-◌, ◌<◌, ◌≤◌, Bool, true, false, cond, not, ◌||◌, eqb, ltb, leb, ◌⊎◌, List, length, get_or, is_some, Some, None, Ok, Err, Option, sym, refl, ap, ◌∙◌, subst, ⊎_elim, add-one, arith}
 use Rattle.std.specs.Option.{option_map}
 use Rattle.std.proofs.lemmas.Bool.{and_from, and_parts, cases_eq, cond-false, cond-true, eq-eqb, eqb-true, le-leb, le-ltb, leb-false, leb-true, lt-leb, lt-ltb, ltb-false, ne_eqb, not-false, not_from_false, not_from_true, or_from, or_left, or_parts, or_right}
 use Rattle.layout.specs.First.{or_else}
-use Rattle.layout.specs.Layout.{body_passes, construct, end, entries, place, shape, start}
-use Rattle.shape.specs.Shapes.{fits, shape_of}
+use Rattle.layout.specs.Layout.{body_passes, construct, end, entries, place, start}
+use Rattle.shape.specs.Shapes.{fits}
 use Rattle.layout.specs.Verdict.{answer, at, child_fault, child_fits, first, layout_fault, left_over, misplaced, refusal, sized}
 use Rattle.layout.proofs.Firsts as some
 use Rattle.layout.specs.declared.error.BookError.{BookError}
 use Rattle.layout.specs.declared.error.BookFault.{BookFault}
 use Rattle.layout.specs.declared.error.BookFault.TheVariants.{BadField, BadLength, BadPlace, WrongChild}
-use Rattle.shape.specs.declared.Construct.{Construct}
-use Rattle.shape.specs.declared.Shape.{Shape}
 
 -- The body of entry e, which has to stand at q
 module _ (ws : List ℕ) (e q : ℕ) (starts : q ≡ start ws e) where

@@ -1,5 +1,5 @@
 -- The first of some entries at which a function answers.
-use Rattle.std.specs.Prelude.{ℕ, zero, suc, ◌+◌, List, Some, None, Option}
+use Rattle.std.specs.Prelude.{ℕ, zero, suc, ◌+◌, Some, None, Option}
 
 abbrev pub or_else : {X : Type 0} → Option X → Option X → Option X
 or_else None b = b

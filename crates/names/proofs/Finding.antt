@@ -1,13 +1,11 @@
 -- What a look-up finds once the callee's own names have been searched.
-use Rattle.std.proofs.Common.{◌≡◌, ℕ, ◌-◌, ◌≤◌, List, length, take, None, Option, sym, refl, ap, ◌∙◌, subst}
+use Rattle.std.proofs.Common.{◌≡◌, ℕ, ◌-◌, ◌≤◌, length, take, None, sym, ap, ◌∙◌}
 use native.Mathlib.Nat.{sub-zero}
 use Rattle.std.specs.Option.{ok_or, option_or}
 use Rattle.std.proofs.lemmas.List.{length-take-le, take-take}
 use Rattle.names.specs.Rules.{lookup, newest_from, root_names}
 use Rattle.names.specs.Scopes.{call_first, opened, root_end}
 use Rattle.names.specs.State.{state_of}
-use Rattle.names.specs.declared.binding.Binding.{Binding}
-use Rattle.names.specs.declared.binding.Found.{Found}
 use Rattle.names.specs.declared.error.NameFault.TheVariants.{UnknownDecl}
 use Rattle.names.specs.declared.names.Names.{Names}
 

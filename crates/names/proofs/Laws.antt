@@ -1,14 +1,14 @@
 -- The laws of names, over any state whose scopes are in order.
-use Rattle.std.proofs.Common.{◌≡◌, ℕ, zero, suc, ◌+◌, ◌<◌, ◌≤◌, Bool, true, false, cond, ◌&&◌, eqb, leb, ◌≢◌, List, [], ◌∷◌, ◌++◌, map, length, get_or, take, drop, set, Some, None, Ok, Err, Option, Result, sym, refl, ap, ◌∙◌, subst, arith}
-use Rattle.std.proofs.lemmas.List.{append-nil, length-map, length_push, length-take-le, take_all, take-append-le, take_at, take-map, take-take}
+use Rattle.std.proofs.Common.{◌≡◌, ℕ, zero, suc, ◌≤◌, true, cond, leb, ◌≢◌, List, [], ◌∷◌, ◌++◌, map, length, take, set, Some, None, Ok, Option, sym, refl, ap, ◌∙◌, subst, arith}
+use Rattle.std.proofs.lemmas.List.{length-map, length-take-le, take_all, take-append-le, take_at, take-map, take-take}
 use Rattle.std.proofs.lemmas.Bool.{and_parts, eq-eqb, leb-true, ne_eqb}
 use Rattle.std.specs.Option.{ok_or, option_or}
 use Rattle.std.specs.List.{slice_get}
 use Rattle.host.specs.Meaning.{ValueMeaning}
 use Rattle.syntax.specs.declared.DeclarationKind.{DeclarationKind}
 use Rattle.syntax.specs.declared.DeclarationKind.TheVariants.{Const, Let, Var}
-use Rattle.names.specs.Laws.{GivesBack, Grown, Lasting, OneValue, Same, close_times, fixed, lasting}
-use Rattle.names.specs.Rules.{bound, close_all, close_scope, closing, if_named, if_var, lookup, newest_from, open_scope, revalued, root_names, the_var, variable, written}
+use Rattle.names.specs.Laws.{GivesBack, OneValue, Same, close_times, fixed, lasting}
+use Rattle.names.specs.Rules.{bound, close_all, close_scope, closing, if_var, lookup, newest_from, open_scope, revalued, root_names, the_var, variable, written}
 use Rattle.names.specs.Scopes.{call_first, if_call, nested, root_end}
 use Rattle.names.specs.State.{State}
 use Rattle.names.specs.declared.binding.Binding.{Binding}

@@ -1,9 +1,9 @@
 -- A table of names with one scope more, or one less.
-use Rattle.std.proofs.Common.{◌≡◌, ℕ, ◌+◌, ◌-◌, ◌<◌, ◌≤◌, Bool, true, false, cond, ◌&&◌, ltb, leb, List, [], ◌∷◌, ◌++◌, reverse, length, get_or, take, set, sym, refl, ap, ◌∙◌, subst, arith}
+use Rattle.std.proofs.Common.{◌≡◌, ◌+◌, ◌-◌, ◌<◌, ◌≤◌, true, false, cond, leb, List, ◌∷◌, reverse, length, get_or, take, set, sym, ap, ◌∙◌, subst, arith}
 use Rattle.std.proofs.lemmas.List.{get_or-set_same, length-reverse, length-set, length-take-le, take-set, take-take}
 use Rattle.std.proofs.lemmas.Bool.{leb-true, le-leb, le-ltb, lt-ltb, and_parts, and_from}
 use Rattle.names.specs.Laws.{GivesBack}
-use Rattle.names.specs.Rules.{close_all, close_scope, closing, may_open, open_scope, root_names}
+use Rattle.names.specs.Rules.{close_scope, closing, may_open, open_scope, root_names}
 use Rattle.names.specs.Scopes.{call_first, closed, if_call, nested, opened}
 use Rattle.names.specs.State.{State, state_of}
 use Rattle.names.specs.declared.names.Names.{Names}

@@ -7,7 +7,6 @@ use Rattle.syntax.specs.declared.DeclarationKind.TheVariants.{Const, Let, Var}
 use Rattle.names.specs.Rules.{close_scope, lookup}
 use Rattle.names.specs.State.{State}
 use Rattle.names.specs.declared.binding.Binding.{Binding}
-use Rattle.names.specs.declared.scope.Scope.{Scope}
 
 -- What of a binding no write changes: its name, its kind, the type of its value, and of a const or let the value.
 pub record Lasting (V : Type 0) : Type 0 where

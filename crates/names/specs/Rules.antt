@@ -1,5 +1,5 @@
 -- The rules of names: scopes opened and closed, names bound, found and written.
-use Rattle.std.specs.Prelude.{ℕ, ◌+◌, Bool, true, false, cond, List, [], ◌∷◌, ◌++◌, length, take, drop, is_some, Some, None, Ok, Err, Option, Result, ◌==◌, nat_lt, slice_set}
+use Rattle.std.specs.Prelude.{ℕ, ◌+◌, Bool, cond, List, [], ◌∷◌, ◌++◌, length, take, drop, is_some, Some, None, Ok, Err, Option, Result, ◌==◌, nat_lt, slice_set}
 use Rattle.std.specs.Option.{ok_or, option_or}
 use Rattle.std.specs.List.{slice_get}
 use Rattle.host.specs.Meaning.{ValueMeaning}

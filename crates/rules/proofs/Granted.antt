@@ -1,17 +1,16 @@
 -- The steps of every answer are the smallest grant that gives it.
-use Rattle.std.proofs.Common.{◌≡◌, ℕ, ◌<◌, ◌≤◌, Bool, true, false, cond, ltb, List, length, Ok, Err, Option, Result, sym, refl, ap, ◌∙◌, subst, arith}
+use Rattle.std.proofs.Common.{◌≡◌, ℕ, ◌<◌, ◌≤◌, Bool, true, false, cond, ltb, List, length, Ok, Err, Result, sym, refl, ap, subst, arith}
 use Rattle.drive.proofs.Law.{outside-smallest, run-smallest}
 use Rattle.drive.specs.Act.{end}
 use Rattle.drive.specs.Drive.{Answer, FailsBy, Fault}
 use Rattle.drive.specs.Drive as D
-use Rattle.rules.specs.Calls.{Answered, Call, Lent, Reply, call, deepest, finished, flow, perform, ran_call, ran_entry, refused, run, too_short, yields}
+use Rattle.rules.specs.Calls.{Answered, Reply, deepest, finished, flow, ran_call, ran_entry, refused, too_short, yields}
 use Rattle.rules.specs.Eval as E
 use Rattle.rules.specs.Language.{rules}
 use Rattle.rules.specs.Promises.{SmallestGrant, SmallestGrants}
 use Rattle.rules.specs.Store.{Env, Refusal, Store, because, statement}
 use Rattle.rules.specs.Tree.{entry_at, is_statement}
 use Rattle.rules.specs.declared.error.Cause.TheVariants as C
-use Rattle.rules.specs.declared.flow.Flow.{Flow}
 
 module _ {V : Type 0} where
   -- Answers that do not look at the grant, with no step.

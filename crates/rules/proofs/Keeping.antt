@@ -1,6 +1,6 @@
 -- Every run keeps the names: what is begun leaves the scopes, the stage and the names as they last, but for a declaration, which
 -- adds its name; and at a fault the names from before are there, inside the scopes that are then open.
-use Rattle.std.proofs.Common.{◌≡◌, ℕ, Bool, true, false, cond, not, ◌&&◌, eqb, List, [], ◌∷◌, ◌++◌, length, Some, None, Ok, Err, Option, Result, sym, refl, ap, ◌∙◌, subst}
+use Rattle.std.proofs.Common.{◌≡◌, ℕ, Bool, true, false, cond, not, ◌&&◌, eqb, List, [], ◌∷◌, ◌++◌, length, Some, None, Ok, Err, Option, Result, sym, refl, ◌∙◌, subst}
 use Rattle.syntax.specs.declared.BinaryOperator.{BinaryOperator}
 use Rattle.syntax.specs.declared.DeclarationKind.{DeclarationKind}
 use Rattle.syntax.specs.declared.DeclarationKind.TheVariants as K
@@ -13,24 +13,23 @@ use Rattle.host.specs.declared.Stepped.{Stepped}
 use Rattle.host.specs.declared.Stepped.TheVariants.{To, Overflow, WrongType}
 use Rattle.names.proofs.Laws.{gives_back}
 use Rattle.names.specs.Laws.{Grown, Same}
-use Rattle.names.specs.Rules.{assign, bind, bound, close_scope, duplicate, lookup, open_scope, write}
+use Rattle.names.specs.Rules.{assign, bind, bound, duplicate, lookup, write}
 use Rattle.names.specs.State.{State}
-use Rattle.names.specs.declared.binding.Binding.{Binding}
 use Rattle.names.specs.declared.binding.Found.{Found}
 use Rattle.names.specs.declared.error.NameFault.{NameFault}
 use Rattle.names.specs.declared.error.NameFault.TheVariants.{DuplicateDecl}
 use Rattle.names.specs.declared.scope.ScopeKind.{ScopeKind}
 use Rattle.names.specs.declared.scope.ScopeKind.TheVariants as Scopes
-use Rattle.drive.specs.Act.{Act, Round, again, begin, end, stop}
+use Rattle.drive.specs.Act.{Act, Round, begin, end}
 use Rattle.drive.proofs.Hoare.{outside_meets, run_meets}
 use Rattle.drive.specs.Drive as D
 use Rattle.drive.specs.Hoare.{Came, Claim, Goal, Keeps, Sound}
-use Rattle.rules.specs.Eval.{add_first, answered, arguments, bind_all, bind_next, call, converted, enter_body, enter_converted, enter_function, eval, eval_callee, evaluated, function_named, if_found, is_const_stage, last, must_yield, name_found, operand_of, returned, right, short_circuit, with_value, without_value, yielded}
-use Rattle.rules.specs.Exec.{after_continuing, after_continuing_body, after_for_body, after_loop_body, after_update, after_while_body, assigned, body, break_if, broken, call_statement, calling, chosen, clauses, closed, compound, condition, decided, declaration, declared, declared_type, exec, exec_continuing, exec_round, first_round, for_body, for_round, if_same, in_turn, initialize, initialized, initializer_stage, kept_default, loop_round, opened, otherwise, reference, return, selecting, selector, stepped, stored, to_continuing, uninitialized, update, while_round}
+use Rattle.rules.specs.Eval.{answered, arguments, bind_all, bind_next, call, converted, enter_body, enter_converted, enter_function, eval, eval_callee, evaluated, function_named, if_found, is_const_stage, last, must_yield, name_found, returned, right, short_circuit, without_value, yielded}
+use Rattle.rules.specs.Exec.{after_continuing, after_for_body, after_loop_body, after_while_body, assigned, break_if, broken, call_statement, calling, chosen, clauses, closed, compound, decided, declaration, declared, declared_type, exec, exec_continuing, exec_round, first_round, for_body, for_round, if_same, in_turn, initialize, initialized, initializer_stage, kept_default, otherwise, reference, return, selecting, selector, stepped, stored, to_continuing, uninitialized, update, while_round}
 use Rattle.rules.specs.Calls.{deepest, ran_call, ran_entry}
 use Rattle.rules.specs.Ledger.{declares}
 use Rattle.rules.specs.Language.{act_of, as_block, as_callee, as_continuing, as_expression, as_statement, block_of, round_of, rules, statement_round}
-use Rattle.rules.specs.Store.{Begun, Env, OutOf, Refusal, Store, astray, because, block, callee, closing, continuing, expression, loaded, lost, named, opening, refuse, refuse_callee, shape, staged, statement, value, value_in}
+use Rattle.rules.specs.Store.{Begun, Env, OutOf, Refusal, Store, astray, block, callee, closing, continuing, expression, loaded, named, opening, refuse, shape, staged, statement, value_in}
 use Rattle.rules.specs.Tree.{Entry, Expression, Function, Statement, called_by, entry_at}
 use Rattle.rules.specs.Tree as T
 use Rattle.rules.specs.declared.error.Cause.{Cause}

@@ -1,26 +1,25 @@
 -- The store agrees with the ledger after every list of calls.
-use Rattle.std.proofs.Common.{◌≡◌, ℕ, Bool, true, false, cond, ltb, List, [], ◌∷◌, ◌++◌, map, length, Some, None, Ok, Err, Option, Result, sym, refl, ap, ◌∙◌, subst}
+use Rattle.std.proofs.Common.{◌≡◌, ℕ, Bool, true, false, cond, ltb, List, [], ◌∷◌, ◌++◌, map, length, Some, None, Ok, Err, Option, Result, sym, refl, ap, ◌∙◌}
 use Rattle.std.proofs.lemmas.List.{map-append}
 use Rattle.std.specs.List.{slice_get}
 use Rattle.syntax.specs.declared.DeclarationKind.{DeclarationKind}
 use Rattle.host.specs.Numbers.{stages}
 use Rattle.host.specs.declared.Stage.{Stage}
 use Rattle.names.specs.Laws.{Same, lasting}
-use Rattle.names.specs.Rules.{bound, close_all, lookup}
-use Rattle.names.specs.State.{State}
+use Rattle.names.specs.Rules.{lookup}
 use Rattle.names.specs.declared.binding.Binding.{Binding}
 use Rattle.names.specs.declared.binding.Found.{Found}
 use Rattle.names.specs.declared.error.NameFault.{NameFault}
 use Rattle.drive.specs.Drive.{Fault}
 use Rattle.drive.specs.Hoare.{Came}
-use Rattle.rules.specs.Calls.{Answered, Call, Lent, Reply, call, finished, flow, look, perform, ran_call, ran_entry, refused, restored, run, seen, set_stage, staging, start, too_short, yields}
+use Rattle.rules.specs.Calls.{Answered, Call, Lent, call, finished, flow, look, perform, ran_call, ran_entry, refused, restored, run, seen, set_stage, staging, start, too_short, yields}
 use Rattle.rules.specs.Ledger.{Agrees, Ledger, LedgerHolds, accepting, blank, declares, entered, ledger_after, newest, noted, noting, store_after}
 use Rattle.rules.specs.Ledger as L
 use Rattle.rules.specs.Store.{Env, Refusal, Store}
 use Rattle.rules.specs.Tree.{entry_at, is_statement}
 use Rattle.rules.specs.declared.error.Cause.TheVariants as C
 use Rattle.rules.specs.declared.flow.Flow.{Flow}
-use Rattle.rules.proofs.Keeping.{Added, At, Stated, call_keeps_names, ran_keeps, statement_goal, tidy_goal}
+use Rattle.rules.proofs.Keeping.{Added, Stated, call_keeps_names, ran_keeps, statement_goal, tidy_goal}
 use Rattle.rules.proofs.Reaching.{Tidy, tidy_root}
 
 newest-push : {A : Type 0} (xs : List A) (x : A) → newest (xs ++ x ∷ []) ≡ Some x

@@ -1,20 +1,19 @@
 -- A look at a name tells what the ledger has of it.
-use Rattle.std.proofs.Common.{◌≡◌, ℕ, ◌+◌, Bool, true, false, cond, eqb, List, [], ◌∷◌, map, length, take, Some, None, Ok, Err, Option, Result, sym, refl, ap, ◌∙◌, subst, arith}
+use Rattle.std.proofs.Common.{◌≡◌, ℕ, ◌+◌, Bool, true, false, cond, eqb, List, [], ◌∷◌, map, length, take, Some, None, Option, sym, refl, ap, ◌∙◌, subst, arith}
 use Rattle.std.proofs.lemmas.List.{take_all}
 use Rattle.std.specs.Option.{option_map, ok_or, option_or}
 use Rattle.host.specs.Meaning.{ValueMeaning}
 use Rattle.syntax.specs.declared.DeclarationKind.{DeclarationKind}
 use Rattle.syntax.specs.declared.DeclarationKind.TheVariants as K
 use Rattle.names.specs.Laws.{Lasting, fixed, lasting}
-use Rattle.names.specs.Rules.{if_named, lookup, newest, newest_from, root_names}
+use Rattle.names.specs.Rules.{if_named, lookup, newest, newest_from}
 use Rattle.names.specs.Scopes.{call_first, root_end}
 use Rattle.names.specs.declared.binding.Binding.{Binding}
 use Rattle.names.specs.declared.binding.Found.{Found}
-use Rattle.names.specs.declared.error.NameFault.{NameFault}
 use Rattle.names.specs.declared.error.NameFault.TheVariants.{UnknownDecl}
 use Rattle.names.specs.State.{State}
-use Rattle.rules.specs.Calls.{Call, look, perform, seen, start}
-use Rattle.rules.specs.Ledger.{Agrees, Ledger, LooksTell, Tells, Valued, blank, if_noted, ledger_after, note_of, store_after}
+use Rattle.rules.specs.Calls.{look, perform, seen, start}
+use Rattle.rules.specs.Ledger.{LooksTell, Tells, Valued, if_noted, note_of, store_after}
 use Rattle.rules.specs.Store.{Env, Store}
 use Rattle.rules.proofs.Ledgers.{ledger_holds}
 

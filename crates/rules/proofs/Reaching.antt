@@ -1,9 +1,9 @@
 -- How the names at one time of a run stand to those at an earlier one.
-use Rattle.std.proofs.Common.{◌≡◌, ℕ, List, [], ◌∷◌, ◌++◌, map, length, take, Some, None, Option, sym, refl, ap, ◌∙◌, subst}
-use Rattle.std.proofs.lemmas.List.{append_assoc, append-nil, length-append, length-map, map-append, take_at, take-map}
+use Rattle.std.proofs.Common.{◌≡◌, ℕ, List, [], ◌∷◌, ◌++◌, map, length, take, sym, refl, ap, ◌∙◌}
+use Rattle.std.proofs.lemmas.List.{append_assoc, append-nil, length-map, map-append, take_at, take-map}
 use Rattle.host.specs.Meaning.{ValueMeaning}
 use Rattle.names.specs.Laws.{Grown, Lasting, Same, lasting}
-use Rattle.names.specs.Rules.{bound, close_all, close_scope, open_scope, root_names}
+use Rattle.names.specs.Rules.{bound, close_all, open_scope}
 use Rattle.names.specs.Scopes.{root_end}
 use Rattle.names.specs.State.{State}
 use Rattle.names.specs.declared.binding.Binding.{Binding}

@@ -1,5 +1,5 @@
 -- What an accepted write or binding leaves.
-use Rattle.std.proofs.Common.{◌≡◌, ℕ, Bool, true, false, cond, eqb, ltb, length, Some, None, Ok, Err, Option, Result, sym, refl, ap, ◌∙◌, subst}
+use Rattle.std.proofs.Common.{◌≡◌, ℕ, Bool, true, false, cond, eqb, ltb, length, Some, None, Ok, Err, Option, Result, refl}
 use Rattle.std.proofs.lemmas.Bool.{eqb-true}
 use Rattle.host.specs.Meaning.{ValueMeaning}
 use Rattle.syntax.specs.declared.DeclarationKind.{DeclarationKind}

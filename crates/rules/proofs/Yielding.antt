@@ -1,5 +1,5 @@
 -- An accepted call yields a value exactly when its function declares a type, and of that type.
-use Rattle.std.proofs.Common.{◌≡◌, ℕ, Bool, true, false, cond, not, ◌&&◌, eqb, List, [], ◌∷◌, length, Some, None, Ok, Err, Option, Result, sym, refl, ap, ◌∙◌, subst}
+use Rattle.std.proofs.Common.{ℕ, Bool, true, false, cond, not, ◌&&◌, eqb, List, [], ◌∷◌, length, Some, None, Ok, Err, Option, Result}
 use Rattle.syntax.specs.declared.DeclarationKind.TheVariants as K
 use Rattle.host.specs.Meaning.{Typed, ValueLaws}
 use Rattle.names.specs.Rules.{bind}
@@ -8,14 +8,13 @@ use Rattle.names.specs.declared.error.NameFault.{NameFault}
 use Rattle.names.specs.declared.scope.ScopeKind.TheVariants as Scopes
 use Rattle.drive.proofs.Hoare.{outside_meets}
 use Rattle.drive.specs.Act.{Act, again, begin, end, stop}
-use Rattle.drive.specs.Drive as D
 use Rattle.drive.specs.Drive.{Fault}
 use Rattle.drive.specs.Hoare.{Came, Claim, Goal, Keeps, Sound}
 use Rattle.rules.specs.Calls.{deepest, ran_call}
-use Rattle.rules.specs.Eval.{bind_all, bind_next, call, converted, enter_body, enter_converted, enter_function, function_named, if_found, is_const_stage, returned, with_value, without_value, yielded}
+use Rattle.rules.specs.Eval.{bind_all, bind_next, call, converted, enter_body, enter_converted, enter_function, function_named, if_found, is_const_stage, returned, yielded}
 use Rattle.rules.specs.Language.{rules}
 use Rattle.rules.specs.Promises.{CallsYield, IfAccepted, Yields, YieldsBy}
-use Rattle.rules.specs.Store.{Begun, Env, OutOf, Refusal, Store, closing, named, opening, refuse, shape}
+use Rattle.rules.specs.Store.{Env, OutOf, Refusal, Store, closing, named, opening, refuse, shape}
 use Rattle.rules.specs.Tree.{Function}
 use Rattle.rules.specs.declared.error.Cause.TheVariants as C
 use Rattle.rules.specs.declared.flow.Flow.{Flow}

@@ -1,5 +1,5 @@
 -- What a program may ask of an engine, what it answers, and what is left then; and a list of such calls.
-use Rattle.std.specs.Prelude.{ℕ, Bool, true, false, cond, ◌||◌, List, [], ◌∷◌, ◌++◌, length, Some, None, Ok, Err, Option, Result, nat_lt}
+use Rattle.std.specs.Prelude.{ℕ, Bool, cond, ◌||◌, List, [], ◌∷◌, length, Some, None, Ok, Err, Option, Result, nat_lt}
 use Rattle.std.specs.List.{slice_get}
 use Rattle.host.specs.Numbers.{stages}
 use Rattle.host.specs.declared.Stage.{Stage}
@@ -12,7 +12,7 @@ use Rattle.drive.specs.Drive.{Answer, Fault, run_outside}
 use Rattle.drive.specs.Drive as D
 use Rattle.rules.specs.Eval as E
 use Rattle.rules.specs.Language.{rules}
-use Rattle.rules.specs.Store.{Env, Refusal, Store, because, named, statement}
+use Rattle.rules.specs.Store.{Env, Refusal, Store, because, statement}
 use Rattle.rules.specs.Tree.{entry_at, is_statement}
 use Rattle.rules.specs.declared.error.Cause.{Cause}
 use Rattle.rules.specs.declared.error.Cause.TheVariants as C

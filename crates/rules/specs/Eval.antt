@@ -11,15 +11,13 @@ use Rattle.host.specs.declared.Stage.{Stage}
 use Rattle.host.specs.declared.Stage.TheVariants.{Const, Override, Exec}
 use Rattle.names.specs.Rules.{bind, lookup}
 use Rattle.names.specs.State.{State}
-use Rattle.names.specs.declared.binding.Binding.{Binding}
 use Rattle.names.specs.declared.binding.Found.{Found}
 use Rattle.names.specs.declared.error.NameFault.{NameFault}
 use Rattle.names.specs.declared.scope.ScopeKind.TheVariants.{Call as CallScope}
-use Rattle.drive.specs.Act.{Act, begin, end, stop}
-use Rattle.rules.specs.Store.{Begun, Env, Store, block, closing, expression, loaded, lost, named, opening, refuse, refuse_callee, shape, value}
+use Rattle.drive.specs.Act.{Act, begin, end}
+use Rattle.rules.specs.Store.{Env, Store, block, closing, expression, lost, named, opening, refuse, refuse_callee, shape, value}
 use Rattle.rules.specs.Tree.{Entry, Expression, Function, children_of, entry_at, function_of, if_named}
 use Rattle.rules.specs.Tree as T
-use Rattle.rules.specs.declared.error.Cause.{Cause}
 use Rattle.rules.specs.declared.error.Cause.TheVariants as C
 use Rattle.rules.specs.declared.flow.CompoundScope.TheVariants.{Transparent}
 use Rattle.rules.specs.declared.flow.Flow.{Flow}

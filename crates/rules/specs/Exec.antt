@@ -13,11 +13,10 @@ use Rattle.names.specs.Rules.{assign, bind, duplicate, write}
 use Rattle.names.specs.State.{State}
 use Rattle.names.specs.declared.error.NameFault.{NameFault}
 use Rattle.names.specs.declared.error.NameFault.TheVariants.{DuplicateDecl, NotRef}
-use Rattle.names.specs.declared.scope.ScopeKind.{ScopeKind}
 use Rattle.names.specs.declared.scope.ScopeKind.TheVariants as Scopes
 use Rattle.drive.specs.Act.{Act, Round, again, begin, end}
 use Rattle.rules.specs.Eval.{answered, function_named, if_found}
-use Rattle.rules.specs.Store.{Begun, Env, Store, block, callee, closing, continuing, expression, loaded, lost, named, opening, refuse, shape, staged, statement, value, value_in}
+use Rattle.rules.specs.Store.{Env, Store, block, callee, closing, continuing, expression, loaded, lost, named, opening, refuse, shape, statement, value, value_in}
 use Rattle.rules.specs.Tree.{Function, Statement, called_by, entry_at}
 use Rattle.rules.specs.Tree as T
 use Rattle.rules.specs.declared.error.Cause.{Cause}

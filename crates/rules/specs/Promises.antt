@@ -1,10 +1,10 @@
 -- What is promised of every run and every call from outside.
 use Rattle.std.specs.Prelude.{◌≡◌, ℕ, ◌<◌, ◌≤◌, List, Some, None, Ok, Err, Option, Result}
 use Rattle.host.specs.Meaning.{ValueMeaning}
-use Rattle.drive.specs.Drive.{FailsBy, Fault}
-use Rattle.rules.specs.Calls.{Answered, Call, Lent, call, perform, ran_call, run}
+use Rattle.drive.specs.Drive.{FailsBy}
+use Rattle.rules.specs.Calls.{Answered, Lent, call, perform, ran_call, run}
 use Rattle.rules.specs.Eval.{function_named}
-use Rattle.rules.specs.Store.{Env, Refusal, Store, because}
+use Rattle.rules.specs.Store.{Env, Store, because}
 use Rattle.rules.specs.Tree.{Function}
 use Rattle.rules.specs.declared.error.Cause.TheVariants.{OutOfFuel}
 

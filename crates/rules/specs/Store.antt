@@ -1,8 +1,8 @@
 -- What a rule runs over: a host's meaning and a book, the names and the stage; and what of it can be begun.
-use Rattle.std.specs.Prelude.{ℕ, Bool, List, Some, None, Option}
+use Rattle.std.specs.Prelude.{ℕ, List, Some, None, Option}
 use Rattle.host.specs.Meaning.{OperatorMeaning, ValueMeaning}
 use Rattle.host.specs.declared.Stage.{Stage}
-use Rattle.names.specs.Rules.{close_all, close_scope, open_scope}
+use Rattle.names.specs.Rules.{close_scope, open_scope}
 use Rattle.names.specs.State.{State}
 use Rattle.names.specs.declared.scope.ScopeKind.{ScopeKind}
 use Rattle.drive.specs.Act.{Act, Shape, begin, stop}

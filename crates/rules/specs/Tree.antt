@@ -1,5 +1,5 @@
 -- The tree of a rule, entry by entry: statements, expressions and functions, with the lists that a book keeps as spans.
-use Rattle.std.specs.Prelude.{ℕ, Bool, true, false, cond, List, [], ◌∷◌, Some, None, Option, ◌==◌}
+use Rattle.std.specs.Prelude.{ℕ, Bool, true, false, cond, List, [], Some, None, Option, ◌==◌}
 use Rattle.syntax.specs.declared.BinaryOperator.{BinaryOperator}
 use Rattle.syntax.specs.declared.DeclarationKind.{DeclarationKind}
 use Rattle.syntax.specs.declared.ShortCircuit.{ShortCircuit as ShortOperator}

@@ -1,5 +1,5 @@
 -- Every scalar is a type with a number of it.
-use Rattle.std.specs.Prelude.{ℕ, Bool, true, false, cond, not, ℤ, pos, Some, None, Option, ◌==◌, unsigned_abs}
+use Rattle.std.specs.Prelude.{cond, not, ℤ, pos, Some, None, Option, ◌==◌, unsigned_abs}
 use Rattle.scalar_value.specs.declared.ScalarType.{ScalarType}
 use Rattle.scalar_value.specs.declared.ScalarType.TheVariants.{Bool as BoolType, AbstractInt as AbstractIntType, I32 as I32Type, U32 as U32Type}
 use Rattle.scalar_value.specs.declared.Scalar.{Scalar}

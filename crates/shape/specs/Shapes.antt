@@ -1,5 +1,5 @@
 -- The body of each construct, the tag of each construct, and what a field takes.
-use Rattle.std.specs.Prelude.{◌≡◌, ℕ, zero, suc, ◌+◌, ◌-◌, ◌<◌, ◌≤◌, Bool, true, false, ◌&&◌, ◌||◌, List, [], ◌∷◌, ◌++◌, map, length, replicate, Some, None, Option, ◌==◌, nat_le, slice_index_or}
+use Rattle.std.specs.Prelude.{ℕ, ◌+◌, Bool, true, false, ◌&&◌, ◌||◌, List, [], ◌∷◌, ◌++◌, map, length, replicate, Some, None, Option, ◌==◌, nat_le, slice_index_or}
 use Rattle.shape.specs.declared.Child.{Child}
 use Rattle.shape.specs.declared.Child.TheVariants as C
 use Rattle.shape.specs.declared.Construct.{Construct}

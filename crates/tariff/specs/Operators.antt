@@ -1,5 +1,5 @@
 -- The operators of the tariff host, over the natural numbers: one definition each. The stage makes no difference.
-use Rattle.std.specs.Prelude.{ℕ, ◌+◌, ◌-◌, ◌*◌, ◌/◌, ◌%◌, Bool, true, false, cond, not, ◌&&◌, ◌||◌, ltb, leb, List, ℤ, pos, negsuc, Some, None, Ok, Err, Option, Result, ◌==◌, nat_le, nat_lt}
+use Rattle.std.specs.Prelude.{ℕ, ◌+◌, ◌-◌, ◌*◌, ◌/◌, ◌%◌, Bool, cond, not, ◌&&◌, ◌||◌, ltb, leb, List, ℤ, pos, negsuc, Some, None, Ok, Err, Option, Result, ◌==◌, nat_le, nat_lt}
 use Rattle.std.specs.Option.{ok_or}
 use Rattle.syntax.specs.declared.UnaryOperator.{UnaryOperator}
 use Rattle.syntax.specs.declared.UnaryOperator.TheVariants.{Negation, LogicalNegation, BitwiseComplement}
@@ -13,7 +13,7 @@ use Rattle.host.specs.declared.Stepped.TheVariants.{To, Overflow, WrongType}
 use Rattle.host.specs.Literals.{literal_number}
 use Rattle.host.specs.Meaning.{OperatorMeaning}
 use Rattle.tariff_value.specs.declared.TariffType.{TariffType}
-use Rattle.tariff_value.specs.declared.TariffType.TheVariants.{Flag as FlagType, Count as CountType, Gram as GramType, Cent as CentType}
+use Rattle.tariff_value.specs.declared.TariffType.TheVariants.{Count as CountType}
 use Rattle.tariff_value.specs.declared.TariffValue.{TariffValue}
 use Rattle.tariff_value.specs.declared.TariffValue.TheVariants.{Flag, Count, Gram, Cent}
 use Rattle.tariff_value.specs.Types.{type_number, numbered_type, highest, type_of, number_of, value, within}

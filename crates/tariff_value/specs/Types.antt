@@ -1,5 +1,5 @@
 -- The types of the tariff host, and every value as a type with a natural number.
-use Rattle.std.specs.Prelude.{ℕ, Bool, true, false, cond, not, Some, None, Option, ◌==◌, nat_le}
+use Rattle.std.specs.Prelude.{ℕ, cond, not, Some, None, Option, ◌==◌, nat_le}
 use Rattle.tariff_value.specs.declared.TariffType.{TariffType}
 use Rattle.tariff_value.specs.declared.TariffType.TheVariants.{Flag as FlagType, Count as CountType, Gram as GramType, Cent as CentType}
 use Rattle.tariff_value.specs.declared.TariffValue.{TariffValue}

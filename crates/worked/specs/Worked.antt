@@ -1,7 +1,6 @@
 -- Worked rules. Each book is the words of the text above it; entries are numbered from the unit, 0, in the order of the text.
-use Rattle.std.specs.Prelude.{◌≡◌, ℕ, List, [], ◌∷◌, pos, negsuc, Some, None, Ok, Err, Option, Result}
+use Rattle.std.specs.Prelude.{◌≡◌, ℕ, List, [], ◌∷◌, pos, negsuc, Some, None, Ok, Err, Option}
 use Rattle.behavior.specs.Rules.{behavior, none}
-use Rattle.drive.specs.Drive.{Fault}
 use Rattle.names.specs.Rules.{open_scopes}
 use Rattle.names.specs.declared.error.NameFault.TheVariants.{DuplicateDecl, UnknownDecl}
 use Rattle.scalar.specs.Operators.{operators}
@@ -10,7 +9,7 @@ use Rattle.scalar_value.specs.declared.Scalar.{Scalar}
 use Rattle.scalar_value.specs.declared.Scalar.TheVariants.{I32}
 use Rattle.rules.specs.Calls.{Answered, Call, Lent, Reply, call, flow, holds, look, perform, run, set_stage, start}
 use Rattle.rules.specs.Ledger.{store_after}
-use Rattle.rules.specs.Store.{Env, Refusal, because, over}
+use Rattle.rules.specs.Store.{Env, because, over}
 use Rattle.rules.specs.declared.error.Cause.{Cause}
 use Rattle.rules.specs.declared.error.Cause.TheVariants as C
 use Rattle.rules.specs.declared.flow.Flow.TheVariants.{Next, Return}

@@ -1,6 +1,6 @@
 use Rattle.std.proofs.Common.{◌≡◌, ◌≢◌, pos, None, sym, ap, ◌∙◌, arith, w64, of_z}
 use lib.Signed.{quot_z}
-use Rattle.std.proofs.lemmas.Int.{ints, to_z-of_z}
+use Rattle.std.proofs.lemmas.Int.{to_z-of_z}
 use Rattle.std.proofs.lemmas.Bool.Decides.{nat_tests}
 use Rattle.host.specs.declared.HostFault.TheVariants.{NegOverflow}
 use Rattle.scalar_value.specs.Types.{inside}

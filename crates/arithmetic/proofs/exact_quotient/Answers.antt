@@ -1,6 +1,4 @@
 use lib.Signed.{quot_z}
-use mir.Syntax.{w128}
-use Rattle.std.proofs.Common.{SFits}
 use Rattle.scalar_value.proofs.Widths.{wide_is}
 use Rattle.arithmetic.proofs.Exact.{exact, quot_fits}
 use Rattle.arithmetic.proofs.exact_quotient.Goals as goal

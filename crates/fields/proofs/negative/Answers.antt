@@ -1,4 +1,4 @@
-use Rattle.std.proofs.Common.{◌≡◌, ℕ, suc, ◌-◌, List, ◌∷◌, ℤ, negsuc, Some, None, decimal, sym, ap, ◌∙◌, subst, ⊎_elim, arith, w64, SFits}
+use Rattle.std.proofs.Common.{◌≡◌, ℕ, suc, ◌-◌, List, ◌∷◌, ℤ, negsuc, Some, decimal, sym, ap, ◌∙◌, subst, ⊎_elim, arith, w64, SFits}
 use Rattle.std.specs.Fmt.{signed_decimal}
 use Rattle.fields.proofs.Decimal.{negative_from, negative_is}
 use Rattle.fields.proofs.negative.Goals as goal

@@ -1,4 +1,4 @@
-use Rattle.std.proofs.Common.{◌≡◌, sym, refl, ap, ⊎_elim, arith}
+use Rattle.std.proofs.Common.{sym, ⊎_elim, arith}
 use Rattle.shape.specs.Shapes.{fields_of}
 use Rattle.shape.proofs.Table.{field_row, field_past, field_unknown}
 use Rattle.shape.proofs.field_of.Goals as goal

@@ -1,4 +1,4 @@
-use Rattle.std.proofs.Common.{◌≡◌, sym, refl, ap, arith}
+use Rattle.std.proofs.Common.{sym, ap, arith}
 use Rattle.shape.specs.Shapes.{shape_of}
 use Rattle.shape.proofs.Table.{shape_row, past_unknown}
 use Rattle.shape.proofs.shape_of.Goals as goal

@@ -1,12 +1,10 @@
-use Rattle.std.proofs.Common.{◌≡◌, ℕ, ◌<◌, ◌≤◌, true, false, not, List, Some, None, sym, refl, ap, ◌∙◌, subst, arith, rules}
-use Rattle.layout.specs.Layout.{entries}
+use Rattle.std.proofs.Common.{◌≡◌, ◌<◌, false, not, Some, sym, ap, ◌∙◌, arith, rules}
 use Rattle.book.specs.Nodes.{listed, paired}
 use Rattle.layout.proofs.Accepted.{loaded}
 use Rattle.book.proofs.Reading.{listed-length, paired-length}
-use Rattle.control.specs.Control.{control, exits}
-use Rattle.behavior.specs.Rules.{exits_by, looped, none, only_next, plus_next, tested, turned}
-use Rattle.behavior.specs.Summaries.{After, Filled, bare_set, clauses_from, continuing_summary, list_from, summary, with_set}
-use Rattle.control.specs.declared.Control.{Control}
+use Rattle.control.specs.Control.{exits}
+use Rattle.behavior.specs.Rules.{exits_by, looped, none, plus_next, tested, turned}
+use Rattle.behavior.specs.Summaries.{bare_set, clauses_from, continuing_summary, summary, with_set}
 use Rattle.behavior.specs.declared.summary.Summary.{Summary}
 use Rattle.control.specs.declared.Control.TheVariants.{Continuing, Forever, Function, If, Loop, Sequence, Switch, While}
 use Rattle.behavior.proofs.Openings.{follow-at}

@@ -1,4 +1,4 @@
-use Rattle.std.proofs.Common.{◌≡◌, sym, ap, ◌∙◌, arith}
+use Rattle.std.proofs.Common.{◌∙◌, arith}
 use Rattle.book.specs.Nodes.{paired}
 use Rattle.book.proofs.Reading.{paired-length}
 use Rattle.behavior.proofs.Defaults.{default_end, default_here, default_later, default_none}

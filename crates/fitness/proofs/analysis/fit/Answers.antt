@@ -1,10 +1,10 @@
-use Rattle.std.proofs.Common.{◌≡◌, ◌-◌, is_ok, Some, None, Ok, Err, sym, refl, ap, ◌∙◌, arith}
+use Rattle.std.proofs.Common.{◌≡◌, ◌-◌, is_ok, Some, None, sym, refl, ap, ◌∙◌, arith}
 use Rattle.std.proofs.lemmas.Bool.{true≢false}
 use Rattle.layout.specs.First.{first_some}
 use Rattle.layout.specs.Layout.{entries}
 use Rattle.layout.proofs.Accepted.{loaded}
 use Rattle.layout.proofs.Firsts.{first_hit, first_more, first-none}
-use Rattle.fitness.specs.Fit.{answer, fault_at, fitness}
+use Rattle.fitness.specs.Fit.{answer, fault_at}
 use Rattle.behavior.proofs.Walked.{blank}
 use Rattle.fitness.proofs.Fitted.{book_fit, fit_book}
 use Rattle.fitness.proofs.analysis.fit.Goals as goal

@@ -1,4 +1,4 @@
-use Rattle.std.proofs.Common.{◌≡◌, ◌+◌, ◌*◌, [], ◌∷◌, ◌++◌, drop, is_ok, vec_items, sym, ap, ◌∙◌, append_assoc, append-nil, arith}
+use Rattle.std.proofs.Common.{◌+◌, ◌*◌, ◌++◌, drop, is_ok, vec_items, sym, ap, ◌∙◌, append_assoc, append-nil, arith}
 use Rattle.std.proofs.ResultArms.{chosen}
 use Rattle.layout.specs.Words.{words_of}
 use Rattle.layout.proofs.Bytes.{word_more, word_none}

@@ -1,4 +1,4 @@
-use Rattle.std.proofs.Common.{◌≡◌, true, false, is_some, sym, refl, ap, ◌∙◌, subst, inl, inr, ⊎_elim, arith}
+use Rattle.std.proofs.Common.{is_some, sym, ap, ◌∙◌, inl, inr, ⊎_elim, arith}
 use Rattle.layout.specs.Layout.{end}
 use Rattle.layout.proofs.Refusals.{cut_short, elsewhere, fine, unfit, unknown}
 use Rattle.layout.proofs.judge.check_body.Goals as goal

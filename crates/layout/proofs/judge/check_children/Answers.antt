@@ -1,9 +1,8 @@
-use Rattle.std.proofs.Common.{◌≡◌, ◌-◌, ◌≤◌, Some, None, sym, ap, ◌∙◌, subst, arith}
-use Rattle.std.proofs.lemmas.Bool.{cond-false, cond-true}
+use Rattle.std.proofs.Common.{sym, ap, ◌∙◌, arith}
 use Rattle.layout.specs.Layout.{end}
-use Rattle.layout.specs.Verdict.{answer, child_fault, child_fits, first}
+use Rattle.layout.specs.Verdict.{answer, child_fault}
 use Rattle.layout.specs.declared.error.BookFault.TheVariants.{WrongChild}
-use Rattle.layout.proofs.Refusals.{Sized, child_fine, child_wrong, first_hit, first_more, first-none, laid, sizes}
+use Rattle.layout.proofs.Refusals.{child_fine, child_wrong, first_hit, first_more, first-none, laid, sizes}
 use Rattle.layout.proofs.judge.check_children.Goals as goal
 
 pub body_passes-requires : goal.body_passes-requires

@@ -1,7 +1,7 @@
-use Rattle.std.proofs.Common.{◌≡◌, ◌+◌, ◌-◌, ◌<◌, ◌≤◌, length, sym, ap, ◌∙◌, subst, arith}
+use Rattle.std.proofs.Common.{◌≡◌, sym, ap, ◌∙◌, arith}
 use Rattle.layout.specs.First.{or_else}
-use Rattle.layout.specs.Layout.{end, entries, place, start}
-use Rattle.layout.specs.Verdict.{answer, first, layout_fault, left_over}
+use Rattle.layout.specs.Layout.{entries}
+use Rattle.layout.specs.Verdict.{answer, layout_fault, left_over}
 use Rattle.layout.proofs.Refusals.{first_hit, first_more, first-none, left_over_lem, none_left, sizes, start-last, start_more}
 use Rattle.layout.proofs.judge.lay_out.Goals as goal
 

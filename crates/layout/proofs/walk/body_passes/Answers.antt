@@ -1,5 +1,5 @@
-use Rattle.std.proofs.Common.{◌≡◌, ◌+◌, ◌-◌, ◌*◌, sym, refl, ap, ◌∙◌, arith}
-use Rattle.layout.specs.Layout.{groups, run_passes, tail_from}
+use Rattle.std.proofs.Common.{◌+◌, ◌-◌, sym, refl, ap, ◌∙◌, arith}
+use Rattle.layout.specs.Layout.{groups, run_passes}
 use Rattle.layout.specs.Verdict.{test}
 use Rattle.layout.proofs.Bodies.{end_is, groups_fail, head_fails, head-within, tail_decides, tail_from_lem}
 use Rattle.layout.proofs.walk.body_passes.Goals as goal

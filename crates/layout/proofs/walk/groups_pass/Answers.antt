@@ -1,5 +1,4 @@
-use Rattle.std.proofs.Common.{◌≡◌, ◌+◌, ◌-◌, ◌*◌, sym, refl, ap, ◌∙◌, arith}
-use Rattle.layout.specs.Layout.{groups, groups_from, groups_pass}
+use Rattle.std.proofs.Common.{◌≡◌, ◌-◌, ◌*◌, sym, ap, ◌∙◌, arith}
 use Rattle.layout.specs.Verdict.{test}
 use Rattle.layout.proofs.Bodies.{end_is, group-end, group_fails, group_more, group-room, groups_from_lem, head-within}
 use Rattle.layout.proofs.walk.groups_pass.Goals as goal

@@ -1,5 +1,5 @@
-use Rattle.std.proofs.Common.{◌≡◌, ◌+◌, ◌-◌, get_or, sym, ap, ◌∙◌, add-zero, arith}
-use Rattle.layout.specs.Layout.{field, run_passes}
+use Rattle.std.proofs.Common.{◌≡◌, ◌+◌, ◌-◌, get_or, ◌∙◌, arith}
+use Rattle.layout.specs.Layout.{field}
 use Rattle.layout.specs.Verdict.{test}
 use Rattle.layout.proofs.Bodies.{run_end, run_fails, run_more}
 use Rattle.layout.proofs.walk.run_passes.Goals as goal

@@ -1,4 +1,4 @@
-use Rattle.std.proofs.Common.{sym, ◌∙◌, arith, rules}
+use Rattle.std.proofs.Common.{◌∙◌, arith, rules}
 use Rattle.std.proofs.lemmas.List.{take_all}
 use Rattle.names.proofs.Opened.{call_first_back, if_call_other}
 use Rattle.names.proofs.scope.call_first.Goals as goal

@@ -1,4 +1,4 @@
-use Rattle.std.proofs.Common.{◌≡◌, ℕ, List, ◌∷◌, Option, sym, ap, ◌∙◌, subst, arith}
+use Rattle.std.proofs.Common.{ℕ, List, ◌∷◌, Option, sym, ap, ◌∙◌, subst, arith}
 use Rattle.fields.specs.Reading.{Prints, Undoes}
 use Rattle.fields.proofs.Decimal.{first_and_rest, same_rest}
 use Rattle.tariff_value.specs.declared.TariffValue.{TariffValue}

@@ -1,8 +1,8 @@
-use Rattle.std.proofs.Common.{◌≡◌, ℕ, ◌<◌, true, ltb, List, is_some, IfSome, Some, None, Option, sym, refl, ap, ◌∙◌, subst, arith}
+use Rattle.std.proofs.Common.{◌≡◌, ℕ, ◌<◌, List, is_some, IfSome, Some, None, Option, sym, ap, ◌∙◌, subst, arith}
 use Rattle.std.proofs.lemmas.Bool.{le-ltb, lt-ltb}
 use Rattle.book.specs.Children.{Children}
 use Rattle.layout.specs.Layout.{entries}
-use Rattle.book.specs.Nodes.{decode, node_at}
+use Rattle.book.specs.Nodes.{node_at}
 use Rattle.layout.specs.WellFormed.{WellFormed}
 use Rattle.book.specs.declared.node.Node.{Node}
 use Rattle.layout.proofs.Accepted.{loaded}

@@ -1,5 +1,5 @@
-use Rattle.std.proofs.Common.{◌≡◌, ◌<◌, ◌≤◌, get_or, sym, ap, ◌∙◌, subst, arith}
-use Rattle.names.specs.Scopes.{opened, root_end, closed}
+use Rattle.std.proofs.Common.{◌≤◌, sym, subst, arith}
+use Rattle.names.specs.Scopes.{opened}
 use Rattle.names.proofs.Opened.{root_end-outermost, root_end_le}
 use Rattle.names.proofs.names.Names.root_end.Goals as goal
 

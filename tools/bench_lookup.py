@@ -5,7 +5,7 @@ import subprocess
 import sys
 import time
 
-program = pathlib.Path(__file__).resolve().parent.parent / "target" / "bin" / "names_cases"
+program = pathlib.Path(__file__).resolve().parent.parent / "crates" / "names_cases" / "out" / "names_cases"
 
 
 def seconds(names, each, rounds):
@@ -20,7 +20,7 @@ def seconds(names, each, rounds):
 
 def main():
     if not program.exists():
-        sys.exit("run 'rt check names_cases' first")
+        sys.exit("run 'rt run -- 1 0 1' in crates/names_cases first")
     print("names  in each scope  nanoseconds")
     for names, each in [(1, 0), (8, 0), (8, 4), (32, 0), (32, 4), (128, 4), (1024, 0), (1024, 4)]:
         rounds = 20_000_000 // names // max(1, names // 8)

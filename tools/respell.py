@@ -42,14 +42,14 @@ def snake(name):
 
 
 def spelling(name, words):
-    parts = [snake(p) if re.match(r"^[a-z]", p) else p for p in name.split("-")]
+    parts = [snake(p) if re.match(r"^[a-z]", p) else p for p in name.replace("getD", "get_or").split("-")]
     return ("-" if all(p in words for p in parts) else "_").join(parts)
 
 
 def changes():
     defined, imported, goals = defined_and_imported()
-    spec_names = {snake(n) for n, where in defined.items() if any("/specs/" in w for w in where)}
-    words = spec_names | {n for n in imported if "-" not in n}
+    specs = {n for n, where in defined.items() if any("/specs/" in w for w in where)}
+    words = {snake(n) for n in specs} | {n for n in imported if "-" not in n}
     change = {}
     for name in sorted(defined):
         if name in imported or name in goals or not re.match(r"^[a-z]", name):
@@ -66,7 +66,7 @@ def changes():
         taken[change[old]] = old
     for old, new in list(change.items()):
         if new in defined and new not in change:
-            if new in spec_names:
+            if new in specs:
                 change[old] = new + "_lem"
             else:
                 change[new] = new + "_lem"

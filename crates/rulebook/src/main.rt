@@ -3,7 +3,7 @@
 mod listing;
 mod report;
 
-use anyhow::anyhow;
+use anyhow::{Context, anyhow};
 use book::book::Book;
 use layout::error::{BookError, BookFault};
 use layout::file::words_of;
@@ -28,12 +28,7 @@ fn read_some(file: &mut File, bytes: &mut Vec<u8>) -> anyhow::Result<usize> {
 
 // The bytes of a file, as far as they can matter.
 fn read_file(rt: &HostRuntime, path: &str) -> anyhow::Result<Vec<u8>> {
-    let mut file = match fs::open(rt, path) {
-        Ok(file) => file,
-        Err(error) => {
-            return Err(anyhow!("{path}: {error}"));
-        }
-    };
+    let mut file = fs::open(rt, path).context(format_args!("{path}"))?;
     let mut bytes = Vec::new(rt.alloc());
     for _ in 0..ENOUGH {
         if read_some(&mut file, &mut bytes)? == 0 || bytes.len() > ENOUGH {
@@ -47,7 +42,7 @@ fn read_file(rt: &HostRuntime, path: &str) -> anyhow::Result<Vec<u8>> {
 fn read_words(rt: &HostRuntime, path: &str) -> anyhow::Result<Vec<u16>> {
     let bytes = read_file(rt, path)?;
     if bytes.len() <= ENOUGH && bytes.len() % 2 != 0 {
-        return Err(anyhow!("{path}: an odd number of bytes"));
+        return Err(anyhow!("an odd number of bytes").context(format_args!("{path}")));
     }
     Ok(words_of(rt.alloc(), bytes.as_slice())?)
 }
@@ -149,7 +144,7 @@ fn main(rt: HostRuntime) -> ExitCode {
     match run(&rt) {
         Ok(()) => ExitCode::SUCCESS,
         Err(error) => {
-            let _ = eprintln!(rt; "rulebook: {error}");
+            let _ = eprintln!(rt; "rulebook: {error:#}");
             ExitCode::FAILURE
         }
     }

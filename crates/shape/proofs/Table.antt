@@ -30,18 +30,18 @@ pub past_unknown : (tag : ℕ) → 49 ≤ tag → construct_of tag ≡ None
 unfolding construct_of
 past_unknown tag h = get_or_past constructs tag None h
 
-get_d_padded : (fs : List Field) (n i : ℕ) → get_or (fs ++ replicate n Absent) i Absent ≡ get_or fs i Absent
-get_d_padded [] zero i = refl
-get_d_padded [] (suc n) zero = refl
-get_d_padded [] (suc n) (suc i) = get_d_padded [] n i
-get_d_padded (f ∷ fs) n zero = refl
-get_d_padded (f ∷ fs) n (suc i) = get_d_padded fs n i
+get_or_padded : (fs : List Field) (n i : ℕ) → get_or (fs ++ replicate n Absent) i Absent ≡ get_or fs i Absent
+get_or_padded [] zero i = refl
+get_or_padded [] (suc n) zero = refl
+get_or_padded [] (suc n) (suc i) = get_or_padded [] n i
+get_or_padded (f ∷ fs) n zero = refl
+get_or_padded (f ∷ fs) n (suc i) = get_or_padded fs n i
 
 pub field_row : (tag i : ℕ) (d : List Field) → tag < 49 → get_or (get_or (map padded constructs) tag d) i Absent ≡ get_or (fields_of (construct_of tag)) i Absent
 unfolding construct_of
 field_row tag i d h =
     ap (λ fs. get_or fs i Absent) (get_or-map padded constructs tag None d h)
-    ∙ get_d_padded (fields_of (construct_of tag)) (7 - length (fields_of (construct_of tag))) i
+    ∙ get_or_padded (fields_of (construct_of tag)) (7 - length (fields_of (construct_of tag))) i
 
 -- no body has more than seven kinds of field
 few : (tag : ℕ) → length (fields_of (construct_of tag)) ≤ 7

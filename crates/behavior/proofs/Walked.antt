@@ -1,10 +1,12 @@
 -- The steps of the walks over lists and clauses, and of the table of what is known.
-use Rattle.std.proofs.Common.{◌≡◌, ℕ, zero, suc, ◌+◌, ◌<◌, ◌≤◌, List, length, get_or, drop, set, replicate, Some, None, Option, sym, refl, ap, ◌∙◌, ⊎_elim, arith, get_or-set_other, get_or-set_same}
+use Rattle.std.proofs.Common.{◌≡◌, ℕ, zero, suc, ◌+◌, ◌<◌, ◌≤◌, cond, List, length, get_or, drop, set, replicate, Some, None, Option, sym, refl, ap, ◌∙◌, ⊎_elim, arith, get_or-set_other, get_or-set_same}
 use Rattle.std.specs.List.{slice_get}
 use Rattle.std.proofs.lemmas.List.{drop_all}
 use Rattle.std.proofs.lemmas.Bool.{cases_eq}
-use Rattle.book.proofs.Reading.{drop-none, drop-some}
-use Rattle.behavior.specs.Rules.{followed, union}
+use Rattle.layout.specs.Layout.{entries}
+use Rattle.book.proofs.Reading.{drop-none, drop-some, node_past}
+use Rattle.control.specs.Control.{control, control_of, is_statement}
+use Rattle.behavior.specs.Rules.{behavior, behavior_at, followed, union}
 use Rattle.behavior.specs.Summaries.{Filled, clauses_from, list_from, summary, with_set}
 use Rattle.behavior.specs.declared.set.Behavior.{Behavior}
 use Rattle.behavior.specs.declared.summary.Summary.{Summary}
@@ -53,3 +55,8 @@ blank ws n k s h = let z : ◌≡◌ {A = ℕ} 0 1 = (let e = empty n k in cc) i
     empty zero k = refl
     empty (suc n) zero = refl
     empty (suc n) (suc k) = empty n k
+
+-- past the last entry there is no statement
+pub none_past : (ws : List ℕ) (e : ℕ) → entries ws ≤ e → None ≡ behavior_at ws e
+unfolding control
+none_past ws e h = sym (ap (λ o. cond (is_statement (control_of o)) (Some (behavior ws e)) None) (node_past ws e h))

@@ -6,6 +6,9 @@ import glob
 import re
 import sys
 
+# Two rules that would have the names of functions which answer something else.
+OWN = {"behaviorOf": "control_behavior", "summaryOf": "control_summary"}
+
 TOKEN = re.compile(r"[A-Za-z_][A-Za-z0-9_'?≢≡≤-]*")
 DEFINED = re.compile(r"^(\s*)((?:abbrev |unfoldable |pub |data |record |constructor |mutual )*)([^\s:(){}λ]+)((?: [^\s:]+)*?)\s+(?:\(.*|\{.*)?:\s(.*)$")
 GENERATED = re.compile(r"^(goal|given|need)\.")
@@ -54,7 +57,7 @@ def changes():
     for name in sorted(defined):
         if name in imported or name in goals or not re.match(r"^[a-z]", name):
             continue
-        new = spelling(name, words)
+        new = OWN.get(name) or spelling(name, words)
         if new != name:
             change[name] = new
     # a lemma that would have the name of a definition gets another ending

@@ -9,7 +9,7 @@ use Rattle.layout.proofs.Accepted.{loaded}
 use Rattle.book.proofs.Family.{children_of_lem}
 use Rattle.behavior.specs.Below.{children_of, earlier, earliest, least, least_of}
 use Rattle.control.specs.Control.{control}
-use Rattle.behavior.specs.Rules.{behavior, behavior_of, else_of, exits_by, followed, forever, has_default, in_turn, joined, looped, none, only_next, plus_next, tested, turned, union}
+use Rattle.behavior.specs.Rules.{behavior, control_behavior, else_of, exits_by, followed, forever, has_default, in_turn, joined, looped, none, only_next, plus_next, tested, turned, union}
 use Rattle.control.specs.declared.Control.{Control}
 use Rattle.control.specs.declared.Control.TheVariants.{Break, Continue, Continuing, Forever, Function, If, Loop, Other, Plain, Return, Sequence, Switch, While}
 use Rattle.behavior.specs.declared.set.Behavior.{Behavior}
@@ -38,7 +38,7 @@ module _ (ws : List ℕ) where
   same_else f g e None m h = refl
   same_else f g e (Some b) m h = h b m.0 m.1
 
-  same-behavior : (f g : ℕ → Behavior) (e : ℕ) (t : Control) → Follows ws e t → ((c : ℕ) → e < c → c < entries ws → f c ≡ g c) → behavior_of ws f t ≡ behavior_of ws g t
+  same-behavior : (f g : ℕ → Behavior) (e : ℕ) (t : Control) → Follows ws e t → ((c : ℕ) → e < c → c < entries ws → f c ≡ g c) → control_behavior ws f t ≡ control_behavior ws g t
   same-behavior f g e Other k h = refl
   same-behavior f g e Plain k h = refl
   same-behavior f g e (Sequence s) k h = same_turn f g only_next (listed ws s) (λ i c n. h c (k i c n).0 (k i c n).1)
@@ -62,12 +62,12 @@ module _ (ws : List ℕ) where
     unfolding control
     control_follows e = follows ws e (node_at ws e) (children_of_lem ws e w)
 
-    behavior_local : Local (entries ws) (λ f c. behavior_of ws f (control ws c))
+    behavior_local : Local (entries ws) (λ f c. control_behavior ws f (control ws c))
     behavior_local f g e h k = same-behavior f g e (control ws e) (control_follows e) k
 
-    pub opened-behavior : (e : ℕ) → e < entries ws → behavior ws e ≡ behavior_of ws (behavior ws) (control ws e)
+    pub opened-behavior : (e : ℕ) → e < entries ws → behavior ws e ≡ control_behavior ws (behavior ws) (control ws e)
     unfolding behavior
-    opened-behavior e h = opened (entries ws) none (λ f c. behavior_of ws f (control ws c)) behavior_local e h
+    opened-behavior e h = opened (entries ws) none (λ f c. control_behavior ws f (control ws c)) behavior_local e h
 
     least_local : (p : ℕ → Bool) → Local (entries ws) (least_of ws p)
     least_local p f g e h k =

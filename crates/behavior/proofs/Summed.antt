@@ -8,7 +8,7 @@ use Rattle.book.specs.declared.node.Pairs.{Pairs}
 use Rattle.behavior.specs.Below.{earliest, is_bare, is_leaving, is_valued, least, seconds}
 use Rattle.control.specs.Control.{control}
 use Rattle.behavior.specs.Rules.{behavior, exits_by, forever, has_default, in_turn, joined, looped, none, only_next, plus_next, tested, turned}
-use Rattle.behavior.specs.Summaries.{bare_set, clauses_from, continuing_summary, list_from, return_summary, summary, summary_of, with_set}
+use Rattle.behavior.specs.Summaries.{bare_set, clauses_from, continuing_summary, control_summary, list_from, return_summary, summary, with_set}
 use Rattle.control.specs.declared.Control.{Control}
 use Rattle.control.specs.declared.Control.TheVariants.{Break, Continue, Continuing, Forever, Function, If, Loop, Other, Plain, Return, Sequence, Switch, While}
 use Rattle.behavior.specs.declared.summary.Summary.{Summary}
@@ -45,7 +45,7 @@ module _ (ws : List ℕ) where
   clause_folds (p ∷ ps) s = clause_folds ps _
 
   module _ (w : WellFormed ws) (e : ℕ) (h : e < entries ws) where
-    opened-summary : summary ws e ≡ summary_of ws e (control ws e)
+    opened-summary : summary ws e ≡ control_summary ws e (control ws e)
     unfolding summary
     opened-summary =
         let b = opened-behavior ws w e h in
@@ -55,8 +55,8 @@ module _ (ws : List ℕ) where
         cc
 
     module _ (t : Control) (is : t ≡ control ws e) where
-      at-control : summary_of ws e t ≡ summary ws e
-      at-control = ap (summary_of ws e) is ∙ sym opened-summary
+      at-control : control_summary ws e t ≡ summary ws e
+      at-control = ap (control_summary ws e) is ∙ sym opened-summary
 
     pub of_other : Other ≡ control ws e → bare_set none ≡ summary ws e
     of_other is = at-control Other is

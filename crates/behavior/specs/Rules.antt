@@ -74,20 +74,20 @@ exits_by ws None = false
 exits_by ws (Some c) = exits (control ws c)
 
 -- The set of an entry, where f says that of its children
-abbrev pub behavior_of : List ℕ → (ℕ → Behavior) → Control → Behavior
-behavior_of ws f Other = none
-behavior_of ws f Plain = only_next
-behavior_of ws f (Sequence s) = in_turn f only_next (listed ws s)
-behavior_of ws f (If s o) = joined f (else_of f o) (paired ws s)
-behavior_of ws f (Switch s) = plus_next (turned (joined f none (paired ws s))) (not (has_default (paired ws s)))
-behavior_of ws f (Loop b c) = looped (f b) (exits_by ws c)
-behavior_of ws f (While b) = tested (f b)
-behavior_of ws f (Forever b) = forever (f b)
-behavior_of ws f Break = set false true false false
-behavior_of ws f Continue = set false false true false
-behavior_of ws f (Return v) = set false false false true
-behavior_of ws f (Continuing b x) = f b
-behavior_of ws f (Function n t b) = f b
+abbrev pub control_behavior : List ℕ → (ℕ → Behavior) → Control → Behavior
+control_behavior ws f Other = none
+control_behavior ws f Plain = only_next
+control_behavior ws f (Sequence s) = in_turn f only_next (listed ws s)
+control_behavior ws f (If s o) = joined f (else_of f o) (paired ws s)
+control_behavior ws f (Switch s) = plus_next (turned (joined f none (paired ws s))) (not (has_default (paired ws s)))
+control_behavior ws f (Loop b c) = looped (f b) (exits_by ws c)
+control_behavior ws f (While b) = tested (f b)
+control_behavior ws f (Forever b) = forever (f b)
+control_behavior ws f Break = set false true false false
+control_behavior ws f Continue = set false false true false
+control_behavior ws f (Return v) = set false false false true
+control_behavior ws f (Continuing b x) = f b
+control_behavior ws f (Function n t b) = f b
 
 -- A value for each entry from those of its children: n levels deep
 unfoldable pub descend : {X : Type 0} → X → ((ℕ → X) → ℕ → X) → ℕ → ℕ → X
@@ -96,7 +96,7 @@ descend blank step (suc n) e = step (descend blank step n) e
 
 -- A child is larger than its parent, so as many levels as there are entries from e on are enough
 unfoldable pub behavior : List ℕ → ℕ → Behavior
-behavior ws e = descend none (λ f c. behavior_of ws f (control ws c)) (entries ws - e) e
+behavior ws e = descend none (λ f c. control_behavior ws f (control ws c)) (entries ws - e) e
 
 -- The set of a statement; none of another entry
 abbrev pub behavior_at : List ℕ → ℕ → Option Behavior

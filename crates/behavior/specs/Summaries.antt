@@ -4,7 +4,7 @@ use Rattle.std.specs.List.{slice_get}
 use Rattle.layout.specs.Layout.{entries}
 use Rattle.book.specs.Nodes.{listed, paired}
 use Rattle.behavior.specs.Below.{children_of, earlier, earliest, is_bare, is_leaving, is_valued, least, leaving, returning}
-use Rattle.behavior.specs.Rules.{behavior, behavior_of, beyond_next, followed, set, union}
+use Rattle.behavior.specs.Rules.{behavior, beyond_next, control_behavior, followed, set, union}
 use Rattle.control.specs.declared.Control.{Control}
 use Rattle.control.specs.declared.Control.TheVariants.{Break, Continue, Continuing, Forever, Function, If, Loop, Other, Plain, Return, Sequence, Switch, While}
 use Rattle.behavior.specs.declared.set.Behavior.{Behavior}
@@ -20,10 +20,10 @@ summary ws e =
     }
 
 -- That of an entry from its control, and the summaries of its children
-abbrev pub summary_of : List ℕ → ℕ → Control → Summary
-summary_of ws e t =
+abbrev pub control_summary : List ℕ → ℕ → Control → Summary
+control_summary ws e t =
     record {
-      behavior = behavior_of ws (behavior ws) t;
+      behavior = control_behavior ws (behavior ws) t;
       bare = cond (returning false t) (Some e) (earliest (least ws (is_bare ws)) None (children_of ws t));
       valued = cond (returning true t) (Some e) (earliest (least ws (is_valued ws)) None (children_of ws t));
       leaving = cond (leaving ws t) (Some e) (earliest (least ws (is_leaving ws)) None (children_of ws t));

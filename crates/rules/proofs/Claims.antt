@@ -13,7 +13,7 @@ use Rattle.book.specs.declared.node.Node.TheVariants as N
 use Rattle.behavior.specs.Below.{Below, children_of, returning, through}
 use Rattle.control.specs.Control.{control}
 use Rattle.fitness.specs.Fit.{Fit}
-use Rattle.behavior.specs.Rules.{behavior, behavior_of}
+use Rattle.behavior.specs.Rules.{behavior, control_behavior}
 use Rattle.control.specs.Control.{exits}
 use Rattle.control.specs.declared.Control.{Control}
 use Rattle.behavior.proofs.Openings.{opened-behavior}
@@ -122,8 +122,8 @@ module _ (ws : List ℕ) where
 
   module _ {V : Type 0} (w : WellFormed ws) (e : ℕ) (t : Control) (is : control ws e ≡ t) where
     -- an entry has the flows that its control and the sets of its children give
-    pub settles : e < entries ws → (f : Flow V) → has (behavior_of ws (behavior ws) t) f ≡ true → has (behavior ws e) f ≡ true
-    settles lt f h = ap (λ b. has b f) (opened-behavior ws w e lt ∙ ap (behavior_of ws (behavior ws)) is) ∙ h
+    pub settles : e < entries ws → (f : Flow V) → has (control_behavior ws (behavior ws) t) f ≡ true → has (behavior ws e) f ≡ true
+    settles lt f h = ap (λ b. has b f) (opened-behavior ws w e lt ∙ ap (control_behavior ws (behavior ws)) is) ∙ h
 
     -- a return below a child is below its parent
     pub rises : (i c : ℕ) → slice_get (children_of ws t) i ≡ Some c → (f : Flow V) → Returns c f → Returns e f

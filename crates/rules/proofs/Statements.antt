@@ -17,7 +17,7 @@ use Rattle.book.specs.declared.node.Pairs.{Pairs}
 use Rattle.behavior.specs.Below.{children_of, itself, returning, seconds}
 use Rattle.control.specs.Control.{control, control_of}
 use Rattle.fitness.specs.Fit.{Fit}
-use Rattle.behavior.specs.Rules.{behavior, behavior_of, beyond_next, else_of, exits_by, has_default, joined, none, only_next}
+use Rattle.behavior.specs.Rules.{behavior, beyond_next, control_behavior, else_of, exits_by, has_default, joined, none, only_next}
 use Rattle.control.specs.Control.{exits}
 use Rattle.control.specs.declared.Control.{Control}
 use Rattle.control.specs.declared.Control.TheVariants as T
@@ -129,7 +129,7 @@ module _ {V : Type 0} (env : Env V) (w : WellFormed env.words) (e : ℕ) (lt : e
 
   -- an if ends as its else or the body of one of its clauses
   module _ (sp : Pairs) (o : Option ℕ) (is : control env.words e ≡ T.If sp o) where
-    if_lands : (i c : ℕ) → slice_get (children_of env.words (T.If sp o)) i ≡ Some c → (f : Flow V) → has (behavior_of env.words (behavior env.words) (T.If sp o)) f ≡ true → Returns env.words c f → Lands env.words e f
+    if_lands : (i c : ℕ) → slice_get (children_of env.words (T.If sp o)) i ≡ Some c → (f : Flow V) → has (control_behavior env.words (behavior env.words) (T.If sp o)) f ≡ true → Returns env.words c f → Lands env.words e f
     if_lands i c at f h r = (settles env.words w e (T.If sp o) is lt f h, rises env.words w e (T.If sp o) is i c at f r)
 
     clause_lands : (i : ℕ) (p : ℕ × ℕ) → slice_get (paired env.words sp) i ≡ Some p → (f : Flow V) → Lands env.words p.1 f → Lands env.words e f
@@ -186,7 +186,7 @@ module _ {V : Type 0} (env : Env V) (w : WellFormed env.words) (e : ℕ) (lt : e
   )
 
   -- what ends a loop with the body b that is its first child
-  body-returns : (t : Control) → control env.words e ≡ t → (b : ℕ) → slice_get (children_of env.words t) 0 ≡ Some b → ((v : Option V) → has (behavior env.words b) (F.Return v) ≡ true → has (behavior_of env.words (behavior env.words) t) (F.Return v) ≡ true) → (v : Option V) → Lands env.words b (F.Return v) → Lands env.words e (F.Return v)
+  body-returns : (t : Control) → control env.words e ≡ t → (b : ℕ) → slice_get (children_of env.words t) 0 ≡ Some b → ((v : Option V) → has (behavior env.words b) (F.Return v) ≡ true → has (control_behavior env.words (behavior env.words) t) (F.Return v) ≡ true) → (v : Option V) → Lands env.words b (F.Return v) → Lands env.words e (F.Return v)
   body-returns t is b at up v h =
       (settles env.words w e t is lt (F.Return v) (up v h.0), rises env.words w e t is 0 b at (F.Return v) h.1)
 

@@ -1,12 +1,14 @@
 #![tactic(auto)]
 // The words of WGSL that a book writes as numbers: operators and kinds of declaration.
-ghost use Rattle.std.specs.Prelude.{◌≡◌, codes};
-ghost use Rattle.std.specs.List.{slice_get};
-ghost use Rattle.syntax.specs.Numbers.{unary_operators, binary_operators, short_circuits, declaration_kinds};
+ghost use Rattle.std.specs.Prelude.{◌≡◌, Some, codes};
+ghost use Rattle.syntax.specs.Numbers.{numbered, unary_operators, binary_operators, short_circuits, declaration_kinds};
 ghost use Rattle.syntax.specs.Symbols.{unary_symbol, binary_symbol, short_circuit_symbol, kind_word};
 
+use std::error::Error;
+use std::fmt;
+
 // An operator before its operand.
-#[derive(Clone, Copy)]
+#[derive(Clone, Copy, PartialEq, Eq, Debug)]
 pub enum UnaryOperator {
     Negation,
     LogicalNegation,
@@ -14,7 +16,7 @@ pub enum UnaryOperator {
 }
 
 // An operator between two operands, both of which are evaluated.
-#[derive(Clone, Copy)]
+#[derive(Clone, Copy, PartialEq, Eq, Debug)]
 pub enum BinaryOperator {
     Addition,
     Subtraction,
@@ -33,32 +35,48 @@ pub enum BinaryOperator {
 }
 
 // An operator whose right operand is evaluated only if it is needed.
-#[derive(Clone, Copy)]
+#[derive(Clone, Copy, PartialEq, Eq, Debug)]
 pub enum ShortCircuit {
     And,
     Or,
 }
 
-#[derive(Clone, Copy)]
+#[derive(Clone, Copy, PartialEq, Eq, Debug)]
 pub enum DeclarationKind {
     Const,
     Let,
     Var,
 }
 
-impl UnaryOperator {
-    // The operator of a number, none from 3 on.
-    pub fn from_number(number: u16) -> Option<UnaryOperator>
-        ensures { result ≡ slice_get unary_operators number }
-    {
+// A number that stands for nothing where it was read.
+#[derive(Clone, Copy, PartialEq, Eq, Debug)]
+pub struct UnknownNumber(pub u16);
+
+impl fmt::Display for UnknownNumber {
+    fn fmt<W: fmt::Write>(&self, f: &mut fmt::Formatter<W>) -> fmt::Result {
+        write!(f, "nothing has the number {}", self.0)
+    }
+}
+
+impl Error for UnknownNumber {}
+
+// The operator of a number, none from 3 on.
+impl TryFrom<u16> for UnaryOperator {
+    type Error = UnknownNumber;
+
+    ghost try_from_gives = { λ number r. r ≡ numbered unary_operators number };
+
+    fn try_from(number: u16) -> Result<UnaryOperator, UnknownNumber> {
         match number {
-            0 => Some(UnaryOperator::Negation),
-            1 => Some(UnaryOperator::LogicalNegation),
-            2 => Some(UnaryOperator::BitwiseComplement),
-            _ => None,
+            0 => Ok(UnaryOperator::Negation),
+            1 => Ok(UnaryOperator::LogicalNegation),
+            2 => Ok(UnaryOperator::BitwiseComplement),
+            _ => Err(UnknownNumber(number)),
         }
     }
+}
 
+impl UnaryOperator {
     // The operator as WGSL writes it.
     pub fn symbol(self) -> &'static str
         ensures { result.now ≡ unary_symbol self }
@@ -71,30 +89,42 @@ impl UnaryOperator {
     }
 }
 
-impl BinaryOperator {
-    // The operator of a number, none from 14 on: 14 and 15 are the short circuits.
-    pub fn from_number(number: u16) -> Option<BinaryOperator>
-        ensures { result ≡ slice_get binary_operators number }
-    {
+impl fmt::Display for UnaryOperator {
+    ghost output = { λ v. Some (unary_symbol v) };
+
+    fn fmt<W: fmt::Write>(&self, f: &mut fmt::Formatter<W>) -> fmt::Result {
+        f.write_str(self.symbol())
+    }
+}
+
+// The operator of a number, none from 14 on: 14 and 15 are the short circuits.
+impl TryFrom<u16> for BinaryOperator {
+    type Error = UnknownNumber;
+
+    ghost try_from_gives = { λ number r. r ≡ numbered binary_operators number };
+
+    fn try_from(number: u16) -> Result<BinaryOperator, UnknownNumber> {
         match number {
-            0 => Some(BinaryOperator::Addition),
-            1 => Some(BinaryOperator::Subtraction),
-            2 => Some(BinaryOperator::Multiplication),
-            3 => Some(BinaryOperator::Division),
-            4 => Some(BinaryOperator::Remainder),
-            5 => Some(BinaryOperator::BinaryAnd),
-            6 => Some(BinaryOperator::BinaryOr),
-            7 => Some(BinaryOperator::BinaryXor),
-            8 => Some(BinaryOperator::Equality),
-            9 => Some(BinaryOperator::Inequality),
-            10 => Some(BinaryOperator::LessThan),
-            11 => Some(BinaryOperator::LessThanEqual),
-            12 => Some(BinaryOperator::GreaterThan),
-            13 => Some(BinaryOperator::GreaterThanEqual),
-            _ => None,
+            0 => Ok(BinaryOperator::Addition),
+            1 => Ok(BinaryOperator::Subtraction),
+            2 => Ok(BinaryOperator::Multiplication),
+            3 => Ok(BinaryOperator::Division),
+            4 => Ok(BinaryOperator::Remainder),
+            5 => Ok(BinaryOperator::BinaryAnd),
+            6 => Ok(BinaryOperator::BinaryOr),
+            7 => Ok(BinaryOperator::BinaryXor),
+            8 => Ok(BinaryOperator::Equality),
+            9 => Ok(BinaryOperator::Inequality),
+            10 => Ok(BinaryOperator::LessThan),
+            11 => Ok(BinaryOperator::LessThanEqual),
+            12 => Ok(BinaryOperator::GreaterThan),
+            13 => Ok(BinaryOperator::GreaterThanEqual),
+            _ => Err(UnknownNumber(number)),
         }
     }
+}
 
+impl BinaryOperator {
     // The operator as WGSL writes it.
     pub fn symbol(self) -> &'static str
         ensures { result.now ≡ binary_symbol self }
@@ -118,18 +148,30 @@ impl BinaryOperator {
     }
 }
 
-impl ShortCircuit {
-    // The short circuit of a number, 0 or 1, that is counted on from the last binary operator.
-    pub fn from_number(number: u16) -> Option<ShortCircuit>
-        ensures { result ≡ slice_get short_circuits number }
-    {
+impl fmt::Display for BinaryOperator {
+    ghost output = { λ v. Some (binary_symbol v) };
+
+    fn fmt<W: fmt::Write>(&self, f: &mut fmt::Formatter<W>) -> fmt::Result {
+        f.write_str(self.symbol())
+    }
+}
+
+// The short circuit of a number, 0 or 1, that is counted on from the last binary operator.
+impl TryFrom<u16> for ShortCircuit {
+    type Error = UnknownNumber;
+
+    ghost try_from_gives = { λ number r. r ≡ numbered short_circuits number };
+
+    fn try_from(number: u16) -> Result<ShortCircuit, UnknownNumber> {
         match number {
-            0 => Some(ShortCircuit::And),
-            1 => Some(ShortCircuit::Or),
-            _ => None,
+            0 => Ok(ShortCircuit::And),
+            1 => Ok(ShortCircuit::Or),
+            _ => Err(UnknownNumber(number)),
         }
     }
+}
 
+impl ShortCircuit {
     // The operator as WGSL writes it.
     pub fn symbol(self) -> &'static str
         ensures { result.now ≡ short_circuit_symbol self }
@@ -141,19 +183,31 @@ impl ShortCircuit {
     }
 }
 
-impl DeclarationKind {
-    // The kind of a number, none from 3 on.
-    pub fn from_number(number: u16) -> Option<DeclarationKind>
-        ensures { result ≡ slice_get declaration_kinds number }
-    {
+impl fmt::Display for ShortCircuit {
+    ghost output = { λ v. Some (short_circuit_symbol v) };
+
+    fn fmt<W: fmt::Write>(&self, f: &mut fmt::Formatter<W>) -> fmt::Result {
+        f.write_str(self.symbol())
+    }
+}
+
+// The kind of a number, none from 3 on.
+impl TryFrom<u16> for DeclarationKind {
+    type Error = UnknownNumber;
+
+    ghost try_from_gives = { λ number r. r ≡ numbered declaration_kinds number };
+
+    fn try_from(number: u16) -> Result<DeclarationKind, UnknownNumber> {
         match number {
-            0 => Some(DeclarationKind::Const),
-            1 => Some(DeclarationKind::Let),
-            2 => Some(DeclarationKind::Var),
-            _ => None,
+            0 => Ok(DeclarationKind::Const),
+            1 => Ok(DeclarationKind::Let),
+            2 => Ok(DeclarationKind::Var),
+            _ => Err(UnknownNumber(number)),
         }
     }
+}
 
+impl DeclarationKind {
     // The kind as WGSL writes it.
     pub fn symbol(self) -> &'static str
         ensures { result.now ≡ kind_word self }
@@ -163,5 +217,13 @@ impl DeclarationKind {
             DeclarationKind::Let => "let",
             DeclarationKind::Var => "var",
         }
+    }
+}
+
+impl fmt::Display for DeclarationKind {
+    ghost output = { λ v. Some (kind_word v) };
+
+    fn fmt<W: fmt::Write>(&self, f: &mut fmt::Formatter<W>) -> fmt::Result {
+        f.write_str(self.symbol())
     }
 }

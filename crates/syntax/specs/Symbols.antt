@@ -1,5 +1,6 @@
 -- How WGSL writes the operators and the kinds of declaration, as bytes.
-use Rattle.std.specs.Prelude.{ℕ, List, codes}
+use Rattle.std.specs.Prelude.{◌≡◌, ◌≢◌, ℕ, List, Result, MatchResult, codes}
+use Rattle.syntax.specs.declared.UnknownWord.{UnknownWord}
 use Rattle.syntax.specs.declared.UnaryOperator.{UnaryOperator}
 use Rattle.syntax.specs.declared.UnaryOperator.TheVariants.{Negation, LogicalNegation, BitwiseComplement}
 use Rattle.syntax.specs.declared.BinaryOperator.{BinaryOperator}
@@ -38,3 +39,7 @@ abbrev pub kind_word : DeclarationKind → List ℕ
 kind_word Const = codes "const"
 kind_word Let = codes "let"
 kind_word Var = codes "var"
+
+-- What a text is read as: what is written so, and an error if nothing is
+abbrev pub Reads : {T : Type 0} → (T → List ℕ) → List ℕ → Result T UnknownWord → Type 0
+Reads {T} written text r = MatchResult r (λ v. written v ≡ text) (λ _. (v : T) → written v ≢ text)

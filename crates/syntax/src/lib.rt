@@ -1,11 +1,12 @@
 #![tactic(auto)]
 // The words of WGSL that a book writes as numbers: operators and kinds of declaration.
-ghost use Rattle.std.specs.Prelude.{◌≡◌, Some, codes};
+ghost use Rattle.std.specs.Prelude.{◌≡◌, ◌++◌, Some, codes, decimal};
 ghost use Rattle.syntax.specs.Numbers.{numbered, unary_operators, binary_operators, short_circuits, declaration_kinds};
-ghost use Rattle.syntax.specs.Symbols.{unary_symbol, binary_symbol, short_circuit_symbol, kind_word};
+ghost use Rattle.syntax.specs.Symbols.{Reads, unary_symbol, binary_symbol, short_circuit_symbol, kind_word};
 
 use std::error::Error;
 use std::fmt;
+use std::str::FromStr;
 
 // An operator before its operand.
 #[derive(Clone, Copy, PartialEq, Eq, Debug)]
@@ -53,12 +54,28 @@ pub enum DeclarationKind {
 pub struct UnknownNumber(pub u16);
 
 impl fmt::Display for UnknownNumber {
+    ghost output = { λ e. Some (codes "nothing has the number " ++ decimal e.0) };
+
     fn fmt<W: fmt::Write>(&self, f: &mut fmt::Formatter<W>) -> fmt::Result {
         write!(f, "nothing has the number {}", self.0)
     }
 }
 
 impl Error for UnknownNumber {}
+
+// A text that WGSL does not write for what was asked.
+#[derive(Clone, Copy, PartialEq, Eq, Debug)]
+pub struct UnknownWord;
+
+impl fmt::Display for UnknownWord {
+    ghost output = { λ _. Some (codes "no such word") };
+
+    fn fmt<W: fmt::Write>(&self, f: &mut fmt::Formatter<W>) -> fmt::Result {
+        f.write_str("no such word")
+    }
+}
+
+impl Error for UnknownWord {}
 
 // The operator of a number, none from 3 on.
 impl TryFrom<u16> for UnaryOperator {
@@ -76,24 +93,30 @@ impl TryFrom<u16> for UnaryOperator {
     }
 }
 
-impl UnaryOperator {
-    // The operator as WGSL writes it.
-    pub fn symbol(self) -> &'static str
-        ensures { result.now ≡ unary_symbol self }
-    {
-        match self {
-            UnaryOperator::Negation => "-",
-            UnaryOperator::LogicalNegation => "!",
-            UnaryOperator::BitwiseComplement => "~",
-        }
-    }
-}
-
 impl fmt::Display for UnaryOperator {
     ghost output = { λ v. Some (unary_symbol v) };
 
     fn fmt<W: fmt::Write>(&self, f: &mut fmt::Formatter<W>) -> fmt::Result {
-        f.write_str(self.symbol())
+        f.write_str(match self {
+            UnaryOperator::Negation => "-",
+            UnaryOperator::LogicalNegation => "!",
+            UnaryOperator::BitwiseComplement => "~",
+        })
+    }
+}
+
+impl FromStr for UnaryOperator {
+    type Err = UnknownWord;
+
+    ghost from_str_gives = { Reads unary_symbol };
+
+    fn from_str(text: &str) -> Result<UnaryOperator, UnknownWord> {
+        match text {
+            "-" => Ok(UnaryOperator::Negation),
+            "!" => Ok(UnaryOperator::LogicalNegation),
+            "~" => Ok(UnaryOperator::BitwiseComplement),
+            _ => Err(UnknownWord),
+        }
     }
 }
 
@@ -124,12 +147,11 @@ impl TryFrom<u16> for BinaryOperator {
     }
 }
 
-impl BinaryOperator {
-    // The operator as WGSL writes it.
-    pub fn symbol(self) -> &'static str
-        ensures { result.now ≡ binary_symbol self }
-    {
-        match self {
+impl fmt::Display for BinaryOperator {
+    ghost output = { λ v. Some (binary_symbol v) };
+
+    fn fmt<W: fmt::Write>(&self, f: &mut fmt::Formatter<W>) -> fmt::Result {
+        f.write_str(match self {
             BinaryOperator::Addition => "+",
             BinaryOperator::Subtraction => "-",
             BinaryOperator::Multiplication => "*",
@@ -144,15 +166,33 @@ impl BinaryOperator {
             BinaryOperator::LessThanEqual => "<=",
             BinaryOperator::GreaterThan => ">",
             BinaryOperator::GreaterThanEqual => ">=",
-        }
+        })
     }
 }
 
-impl fmt::Display for BinaryOperator {
-    ghost output = { λ v. Some (binary_symbol v) };
+impl FromStr for BinaryOperator {
+    type Err = UnknownWord;
 
-    fn fmt<W: fmt::Write>(&self, f: &mut fmt::Formatter<W>) -> fmt::Result {
-        f.write_str(self.symbol())
+    ghost from_str_gives = { Reads binary_symbol };
+
+    fn from_str(text: &str) -> Result<BinaryOperator, UnknownWord> {
+        match text {
+            "+" => Ok(BinaryOperator::Addition),
+            "-" => Ok(BinaryOperator::Subtraction),
+            "*" => Ok(BinaryOperator::Multiplication),
+            "/" => Ok(BinaryOperator::Division),
+            "%" => Ok(BinaryOperator::Remainder),
+            "&" => Ok(BinaryOperator::BinaryAnd),
+            "|" => Ok(BinaryOperator::BinaryOr),
+            "^" => Ok(BinaryOperator::BinaryXor),
+            "==" => Ok(BinaryOperator::Equality),
+            "!=" => Ok(BinaryOperator::Inequality),
+            "<" => Ok(BinaryOperator::LessThan),
+            "<=" => Ok(BinaryOperator::LessThanEqual),
+            ">" => Ok(BinaryOperator::GreaterThan),
+            ">=" => Ok(BinaryOperator::GreaterThanEqual),
+            _ => Err(UnknownWord),
+        }
     }
 }
 
@@ -171,23 +211,14 @@ impl TryFrom<u16> for ShortCircuit {
     }
 }
 
-impl ShortCircuit {
-    // The operator as WGSL writes it.
-    pub fn symbol(self) -> &'static str
-        ensures { result.now ≡ short_circuit_symbol self }
-    {
-        match self {
-            ShortCircuit::And => "&&",
-            ShortCircuit::Or => "||",
-        }
-    }
-}
-
 impl fmt::Display for ShortCircuit {
     ghost output = { λ v. Some (short_circuit_symbol v) };
 
     fn fmt<W: fmt::Write>(&self, f: &mut fmt::Formatter<W>) -> fmt::Result {
-        f.write_str(self.symbol())
+        f.write_str(match self {
+            ShortCircuit::And => "&&",
+            ShortCircuit::Or => "||",
+        })
     }
 }
 
@@ -207,23 +238,29 @@ impl TryFrom<u16> for DeclarationKind {
     }
 }
 
-impl DeclarationKind {
-    // The kind as WGSL writes it.
-    pub fn symbol(self) -> &'static str
-        ensures { result.now ≡ kind_word self }
-    {
-        match self {
-            DeclarationKind::Const => "const",
-            DeclarationKind::Let => "let",
-            DeclarationKind::Var => "var",
-        }
-    }
-}
-
 impl fmt::Display for DeclarationKind {
     ghost output = { λ v. Some (kind_word v) };
 
     fn fmt<W: fmt::Write>(&self, f: &mut fmt::Formatter<W>) -> fmt::Result {
-        f.write_str(self.symbol())
+        f.write_str(match self {
+            DeclarationKind::Const => "const",
+            DeclarationKind::Let => "let",
+            DeclarationKind::Var => "var",
+        })
+    }
+}
+
+impl FromStr for DeclarationKind {
+    type Err = UnknownWord;
+
+    ghost from_str_gives = { Reads kind_word };
+
+    fn from_str(text: &str) -> Result<DeclarationKind, UnknownWord> {
+        match text {
+            "const" => Ok(DeclarationKind::Const),
+            "let" => Ok(DeclarationKind::Let),
+            "var" => Ok(DeclarationKind::Var),
+            _ => Err(UnknownWord),
+        }
     }
 }

@@ -4,8 +4,7 @@ use Rattle.syntax.specs.declared.UnaryOperator.{UnaryOperator}
 use Rattle.syntax.specs.declared.BinaryOperator.{BinaryOperator}
 use Rattle.host.specs.declared.Stage.{Stage}
 use Rattle.host.specs.declared.HostFault.{HostFault}
-use Rattle.host.specs.declared.Stepped.{Stepped}
-use Rattle.host.specs.declared.Stepped.TheVariants.{To, Overflow, WrongType}
+use Rattle.host.specs.declared.StepFault.{StepFault}
 use Rattle.host.specs.Numbers.{fault_number, OfHost}
 
 pub record ValueMeaning (V : Type 0) : Type 0 where
@@ -36,8 +35,8 @@ pub record OperatorMeaning (V : Type 0) : Type 0 where
   pub unary : Stage → UnaryOperator → V → Result V HostFault
   pub binary : Stage → BinaryOperator → V → V → Result V HostFault
   pub same : V → V → Result Bool HostFault
-  pub up : V → Stepped V
-  pub down : V → Stepped V
+  pub up : V → Result V StepFault
+  pub down : V → Result V StepFault
 
 -- An answer, or a fault with a number that a host may give.
 abbrev pub Answers : {A : Type 0} → Result A HostFault → Type 0
@@ -45,10 +44,9 @@ Answers (Ok a) = Unit {0}
 Answers (Err f) = OfHost (fault_number f)
 
 -- A step to a value of the type t, if to any.
-abbrev pub Steps : {V : Type 0} → ValueMeaning V → ℕ → Stepped V → Type 0
-Steps m t (To w) = m.type_of w ≡ t
-Steps m t Overflow = Unit {0}
-Steps m t WrongType = Unit {0}
+abbrev pub Steps : {V : Type 0} → ValueMeaning V → ℕ → Result V StepFault → Type 0
+Steps m t (Ok w) = m.type_of w ≡ t
+Steps m t (Err f) = Unit {0}
 
 pub record OperatorLaws {V : Type 0} (m : ValueMeaning V) (o : OperatorMeaning V) : Type 0 where
   pub literals : (kind : ℕ) (words : List ℕ) → Answers (o.literal kind words)

@@ -1,12 +1,16 @@
 #![tactic(auto)]
 // What a host gives to an executor: values, and operators on them.
-ghost use Rattle.std.specs.Prelude.{◌≡◌, Some};
-ghost use Rattle.std.specs.List.{slice_get};
+ghost use Rattle.std.specs.Prelude.{◌≡◌, ◌++◌, Some, Ok, codes, decimal};
+ghost use Rattle.syntax.specs.Numbers.{numbered};
+ghost use Rattle.syntax.specs.Symbols.{Reads};
 ghost use Rattle.host.specs.Literals.{literal_number};
 ghost use Rattle.host.specs.Meaning.{ValueMeaning, ValueLaws, OperatorMeaning, OperatorLaws};
-ghost use Rattle.host.specs.Numbers.{stages, stage_number, fault_number};
+ghost use Rattle.host.specs.Numbers.{stages, stage_number, stage_word, fault_number, step_fault_text};
 
-use syntax::{BinaryOperator, UnaryOperator};
+use std::error::Error;
+use std::fmt;
+use std::str::FromStr;
+use syntax::{BinaryOperator, UnaryOperator, UnknownNumber, UnknownWord};
 
 // When an expression is evaluated.
 #[derive(Clone, Copy, PartialEq, Eq, Debug)]
@@ -31,32 +35,35 @@ pub enum HostFault {
     Other(u16),
 }
 
-// Where `++` or `--` leads.
-#[derive(Clone, Copy)]
-pub enum Stepped<V> {
-    To(V),
+// Why `++` or `--` leads to no value.
+#[derive(Clone, Copy, PartialEq, Eq, Debug)]
+pub enum StepFault {
     Overflow,
     WrongType,
 }
 
-impl Stage {
-    // The stage of a number, none from 3 on.
-    pub fn from_number(number: u16) -> Option<Stage>
-        ensures { result ≡ slice_get stages number }
-    {
+// The stage of a number, none from 3 on.
+impl TryFrom<u16> for Stage {
+    type Error = UnknownNumber;
+
+    ghost try_from_gives = { λ number r. r ≡ numbered stages number };
+
+    fn try_from(number: u16) -> Result<Stage, UnknownNumber> {
         match number {
-            0 => Some(Stage::Const),
-            1 => Some(Stage::Override),
-            2 => Some(Stage::Exec),
-            _ => None,
+            0 => Ok(Stage::Const),
+            1 => Ok(Stage::Override),
+            2 => Ok(Stage::Exec),
+            _ => Err(UnknownNumber(number)),
         }
     }
+}
 
-    pub fn number(self) -> u16
-        ensures value { result ≡ stage_number self }
-        ensures back { slice_get stages result ≡ Some self }
-    {
-        match self {
+// The number of a stage, from which the stage is read back.
+impl From<Stage> for u16 {
+    ghost from_gives = { λ stage n. (n ≡ stage_number stage) × (numbered stages n ≡ Ok stage) };
+
+    fn from(stage: Stage) -> u16 {
+        match stage {
             Stage::Const => 0,
             Stage::Override => 1,
             Stage::Exec => 2,
@@ -64,11 +71,28 @@ impl Stage {
     }
 }
 
-impl HostFault {
-    pub fn number(self) -> u16
-        ensures { result ≡ fault_number self }
-    {
-        match self {
+// The stage that WGSL writes so.
+impl FromStr for Stage {
+    type Err = UnknownWord;
+
+    ghost from_str_gives = { Reads stage_word };
+
+    fn from_str(text: &str) -> Result<Stage, UnknownWord> {
+        match text {
+            "const" => Ok(Stage::Const),
+            "override" => Ok(Stage::Override),
+            "exec" => Ok(Stage::Exec),
+            _ => Err(UnknownWord),
+        }
+    }
+}
+
+// The number of a fault, under which a refusal is printed.
+impl From<HostFault> for u16 {
+    ghost from_gives = { λ fault n. n ≡ fault_number fault };
+
+    fn from(fault: HostFault) -> u16 {
+        match fault {
             HostFault::Unary => 40,
             HostFault::Binary => 41,
             HostFault::NegOverflow => 42,
@@ -83,13 +107,36 @@ impl HostFault {
     }
 }
 
+// A fault is written as `!` and its number.
+impl fmt::Display for HostFault {
+    ghost output = { λ fault. Some (codes "!" ++ decimal (fault_number fault)) };
+
+    fn fmt<W: fmt::Write>(&self, f: &mut fmt::Formatter<W>) -> fmt::Result {
+        write!(f, "!{}", u16::from(*self))
+    }
+}
+
+impl Error for HostFault {}
+
+impl fmt::Display for StepFault {
+    ghost output = { λ fault. Some (step_fault_text fault) };
+
+    fn fmt<W: fmt::Write>(&self, f: &mut fmt::Formatter<W>) -> fmt::Result {
+        f.write_str(match self {
+            StepFault::Overflow => "overflow",
+            StepFault::WrongType => "wrong type",
+        })
+    }
+}
+
+impl Error for StepFault {}
+
 // The number that the words of a literal write, least word first.
 pub fn literal_number(words: [u16; 4]) -> i64
     ensures { result ≡ literal_number words }
 {
-    let low = u64::from(words[0]) + 65536 * u64::from(words[1]);
-    let high = u64::from(words[2]) + 65536 * u64::from(words[3]);
-    (low + 4294967296 * high).cast_signed()
+    let [a, b, c, d] = words.map(u64::from);
+    (a + (b << 16) + (c << 32) + (d << 48)).cast_signed()
 }
 
 // The value part of a host. A type is a number.
@@ -144,12 +191,13 @@ pub trait Operators: Values {
     fn same(&self, a: Self::Value, b: Self::Value) -> Result<bool, HostFault>
         ensures { result ≡ (acts self.now).same a b };
 
-    // One more, as `++` has it.
-    fn up(&self, v: Self::Value) -> Stepped<Self::Value>
+    // One more, as `++` has it. It stands apart from `down` as `++` does from `--`: with the direction as an argument,
+    // every host would ask for it again.
+    fn up(&self, v: Self::Value) -> Result<Self::Value, StepFault>
         ensures { result ≡ (acts self.now).up v };
 
     // One less, as `--` has it.
-    fn down(&self, v: Self::Value) -> Stepped<Self::Value>
+    fn down(&self, v: Self::Value) -> Result<Self::Value, StepFault>
         ensures { result ≡ (acts self.now).down v };
 
     ghost keeps: { (h : Self) → OperatorLaws (Self.Values.means h) (acts h) };

@@ -1,2 +1,1 @@
 pub mod Widths
-mod Written

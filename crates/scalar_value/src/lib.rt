@@ -3,7 +3,7 @@
 pub mod field;
 pub mod number;
 
-#[derive(Clone, Copy)]
+#[derive(Clone, Copy, PartialEq, Eq, Debug)]
 pub enum ScalarType {
     Bool,
     AbstractInt,

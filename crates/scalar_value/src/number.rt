@@ -1,36 +1,43 @@
 // Every scalar as a number of its type, and back.
 ghost use Rattle.std.specs.Prelude.{◌≡◌, true, pos};
-ghost use Rattle.std.specs.List.{slice_get};
+ghost use Rattle.syntax.specs.Numbers.{numbered};
 ghost use Rattle.scalar_value.specs.Types.{scalar_types, type_number, size, lowest, highest, inside, wrap};
 ghost use Rattle.scalar_value.specs.Numbers.{type_of, number_of, scalar, within, wrapped};
 
 use crate::{Scalar, ScalarType};
+use syntax::UnknownNumber;
 
-impl ScalarType {
-    // The type of a number, none from 4 on.
-    pub fn from_number(number: u16) -> Option<ScalarType>
-        ensures { result ≡ slice_get scalar_types number }
-    {
+// The type of a number, none from 4 on.
+impl TryFrom<u16> for ScalarType {
+    type Error = UnknownNumber;
+
+    ghost try_from_gives = { λ number r. r ≡ numbered scalar_types number };
+
+    fn try_from(number: u16) -> Result<ScalarType, UnknownNumber> {
         match number {
-            0 => Some(ScalarType::Bool),
-            1 => Some(ScalarType::AbstractInt),
-            2 => Some(ScalarType::I32),
-            3 => Some(ScalarType::U32),
-            _ => None,
+            0 => Ok(ScalarType::Bool),
+            1 => Ok(ScalarType::AbstractInt),
+            2 => Ok(ScalarType::I32),
+            3 => Ok(ScalarType::U32),
+            _ => Err(UnknownNumber(number)),
         }
     }
+}
 
-    pub fn number(self) -> u16
-        ensures { result ≡ type_number self }
-    {
-        match self {
+impl From<ScalarType> for u16 {
+    ghost from_gives = { λ t n. n ≡ type_number t };
+
+    fn from(t: ScalarType) -> u16 {
+        match t {
             ScalarType::Bool => 0,
             ScalarType::AbstractInt => 1,
             ScalarType::I32 => 2,
             ScalarType::U32 => 3,
         }
     }
+}
 
+impl ScalarType {
     fn lowest(self) -> i128
         ensures { result ≡ lowest self }
     {
@@ -88,18 +95,18 @@ impl Scalar {
             Scalar::U32(_) => ScalarType::U32,
         }
     }
+}
 
-    // The number, false being 0 and true 1.
-    pub fn number(self) -> i64
-        ensures value { result ≡ number_of self }
-        ensures inside { inside (type_of self) result ≡ true }
-    {
-        match self {
-            Scalar::Bool(false) => 0,
-            Scalar::Bool(true) => 1,
+// The number of a scalar, false being 0 and true 1.
+impl From<Scalar> for i64 {
+    ghost from_gives = { λ v n. (n ≡ number_of v) × (inside (type_of v) n ≡ true) };
+
+    fn from(v: Scalar) -> i64 {
+        match v {
+            Scalar::Bool(b) => i64::from(b),
             Scalar::AbstractInt(x) => x,
-            Scalar::I32(x) => x as i64,
-            Scalar::U32(x) => x as i64,
+            Scalar::I32(x) => i64::from(x),
+            Scalar::U32(x) => i64::from(x),
         }
     }
 }

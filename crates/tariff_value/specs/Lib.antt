@@ -1,2 +1,3 @@
 pub mod Types
 pub mod Fields
+pub mod Laws

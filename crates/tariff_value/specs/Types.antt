@@ -1,5 +1,5 @@
 -- The types of the tariff host, and every value as a type with a natural number.
-use Rattle.std.specs.Prelude.{ℕ, cond, not, Some, None, Option, ◌==◌, nat_le}
+use Rattle.std.specs.Prelude.{ℕ, ℤ, pos, negsuc, cond, not, Some, None, Option, ◌==◌, nat_le}
 use Rattle.tariff_value.specs.declared.TariffType.{TariffType}
 use Rattle.tariff_value.specs.declared.TariffType.TheVariants.{Flag as FlagType, Count as CountType, Gram as GramType, Cent as CentType}
 use Rattle.tariff_value.specs.declared.TariffValue.{TariffValue}
@@ -46,3 +46,8 @@ value CentType n = Cent n
 -- the number where the type has it, and none elsewhere
 abbrev pub within : TariffType → ℕ → Option TariffValue
 within t n = cond (nat_le n (highest t)) (Some (value t n)) None
+
+-- the same of an integer: no type has a negative number
+abbrev pub within_integer : TariffType → ℤ → Option TariffValue
+within_integer t (pos n) = within t n
+within_integer t (negsuc n) = None

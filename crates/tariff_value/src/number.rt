@@ -1,34 +1,41 @@
 // Every value as a number of its type, and back.
-ghost use Rattle.std.specs.Prelude.{◌≡◌};
+ghost use Rattle.std.specs.Prelude.{◌≡◌, ok_or};
 ghost use Rattle.tariff_value.specs.Types.{type_number, numbered_type, highest, type_of, number_of, value, within};
 
 use crate::{TariffType, TariffValue};
+use syntax::UnknownNumber;
 
-impl TariffType {
-    // The type with that number.
-    pub fn from_number(number: u16) -> Option<TariffType>
-        ensures { result ≡ numbered_type number }
-    {
+// The type with that number.
+impl TryFrom<u16> for TariffType {
+    type Error = UnknownNumber;
+
+    ghost try_from_gives = { λ number r. r ≡ ok_or (numbered_type number) (record { 0 = number }) };
+
+    fn try_from(number: u16) -> Result<TariffType, UnknownNumber> {
         match number {
-            0 => Some(TariffType::Flag),
-            4 => Some(TariffType::Count),
-            5 => Some(TariffType::Gram),
-            6 => Some(TariffType::Cent),
-            _ => None,
+            0 => Ok(TariffType::Flag),
+            4 => Ok(TariffType::Count),
+            5 => Ok(TariffType::Gram),
+            6 => Ok(TariffType::Cent),
+            _ => Err(UnknownNumber(number)),
         }
     }
+}
 
-    pub fn number(self) -> u16
-        ensures { result ≡ type_number self }
-    {
-        match self {
+impl From<TariffType> for u16 {
+    ghost from_gives = { λ t n. n ≡ type_number t };
+
+    fn from(t: TariffType) -> u16 {
+        match t {
             TariffType::Flag => 0,
             TariffType::Count => 4,
             TariffType::Gram => 5,
             TariffType::Cent => 6,
         }
     }
+}
 
+impl TariffType {
     fn highest(self) -> u32
         ensures { result ≡ highest self }
     {
@@ -50,14 +57,15 @@ impl TariffValue {
             TariffValue::Cent(_) => TariffType::Cent,
         }
     }
+}
 
-    // The number, false being 0 and true 1.
-    pub fn number(self) -> u32
-        ensures { result ≡ number_of self }
-    {
-        match self {
-            TariffValue::Flag(false) => 0,
-            TariffValue::Flag(true) => 1,
+// The number of a value, false being 0 and true 1.
+impl From<TariffValue> for u32 {
+    ghost from_gives = { λ v n. n ≡ number_of v };
+
+    fn from(v: TariffValue) -> u32 {
+        match v {
+            TariffValue::Flag(b) => u32::from(b),
             TariffValue::Count(n) | TariffValue::Gram(n) | TariffValue::Cent(n) => n,
         }
     }

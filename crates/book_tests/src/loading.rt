@@ -8,7 +8,7 @@ fn verdict(words: &[u16]) -> (u16, u16) {
     let mut book = Book::empty();
     match book.load(words) {
         Ok(()) => (0, book.entries()),
-        Err(error) => (error.fault.number(), error.entry),
+        Err(error) => (u16::from(error.fault), error.entry),
     }
 }
 

@@ -1,5 +1,5 @@
 -- What load answers: the first refusal, in the order of the tests.
-use Rattle.std.specs.Prelude.{ℕ, zero, suc, ◌+◌, ◌-◌, Bool, true, cond, not, ◌&&◌, ◌||◌, List, [], ◌∷◌, length, is_some, Some, None, Ok, Err, Option, Result, ◌==◌, nat_le, nat_lt, slice_index}
+use Rattle.std.specs.Prelude.{ℕ, zero, suc, ◌+◌, ◌-◌, Bool, true, cond, not, ◌&&◌, ◌||◌, List, [], ◌∷◌, length, is_some, Some, None, Ok, Err, Option, Result, ◌==◌, nat_le, nat_lt, slice_index, codes}
 use Rattle.std.specs.Option.{option_map}
 use Rattle.layout.specs.First.{first_some, or_else}
 use Rattle.layout.specs.Layout.{body_passes, construct, end, entries, place, start}
@@ -19,6 +19,13 @@ number_of BadLength = 1
 number_of BadPlace = 2
 number_of BadField = 3
 number_of WrongChild = 4
+
+-- and its name
+abbrev pub name_of : BookFault → List ℕ
+name_of BadLength = codes "BadLength"
+name_of BadPlace = codes "BadPlace"
+name_of BadField = codes "BadField"
+name_of WrongChild = codes "WrongChild"
 
 -- 1 to 4,096 entries, room for their places, and at most 65,535 words
 abbrev pub sized : List ℕ → Bool

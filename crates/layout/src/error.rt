@@ -1,8 +1,11 @@
 // Why words are no book.
-ghost use Rattle.std.specs.Prelude.{◌≡◌};
-ghost use Rattle.layout.specs.Verdict.{number_of};
+ghost use Rattle.std.specs.Prelude.{◌≡◌, ◌++◌, Some, codes, decimal};
+ghost use Rattle.layout.specs.Verdict.{name_of, number_of};
 
-#[derive(Clone, Copy)]
+use std::error::Error;
+use std::fmt;
+
+#[derive(Clone, Copy, PartialEq, Eq, Debug)]
 pub enum BookFault {
     BadLength,
     BadPlace,
@@ -11,18 +14,18 @@ pub enum BookFault {
 }
 
 // A refusal, and the entry at which it arose.
-#[derive(Clone, Copy)]
+#[derive(Clone, Copy, PartialEq, Eq, Debug)]
 pub struct BookError {
     pub fault: BookFault,
     pub entry: u16,
 }
 
-impl BookFault {
-    // The number under which the refusal is printed.
-    pub fn number(self) -> u16
-        ensures { result ≡ number_of self }
-    {
-        match self {
+// The number under which the refusal is printed.
+impl From<BookFault> for u16 {
+    ghost from_gives = { λ fault n. n ≡ number_of fault };
+
+    fn from(fault: BookFault) -> u16 {
+        match fault {
             BookFault::BadLength => 1,
             BookFault::BadPlace => 2,
             BookFault::BadField => 3,
@@ -30,3 +33,27 @@ impl BookFault {
         }
     }
 }
+
+// The name under which it is printed.
+impl fmt::Display for BookFault {
+    ghost output = { λ fault. Some (name_of fault) };
+
+    fn fmt<W: fmt::Write>(&self, f: &mut fmt::Formatter<W>) -> fmt::Result {
+        f.write_str(match self {
+            BookFault::BadLength => "BadLength",
+            BookFault::BadPlace => "BadPlace",
+            BookFault::BadField => "BadField",
+            BookFault::WrongChild => "WrongChild",
+        })
+    }
+}
+
+impl fmt::Display for BookError {
+    ghost output = { λ e. Some (name_of e.fault ++ codes " at entry " ++ decimal e.entry) };
+
+    fn fmt<W: fmt::Write>(&self, f: &mut fmt::Formatter<W>) -> fmt::Result {
+        write!(f, "{} at entry {}", self.fault, self.entry)
+    }
+}
+
+impl Error for BookError {}

@@ -8,9 +8,9 @@ use std::alloc::{AllocError, Global};
 pub fn words_of(heap: Global, bytes: &[u8]) -> Result<Vec<u16>, AllocError>
     ensures { IfOk result (λ v. v.items ≡ words_of bytes.now) }
 {
-    let mut words = Vec::new(heap);
-    for k in 0..bytes.len() / 2 {
-        words.push(bytes[2 * k] as u16 + bytes[2 * k + 1] as u16 * 256)?;
-    }
-    Ok(words)
+    let (pairs, _) = bytes.as_chunks::<2>();
+    pairs
+        .iter()
+        .map(|pair| u16::from_le_bytes(*pair))
+        .collect(heap)
 }

@@ -57,7 +57,7 @@ fn name_of(fault: BookFault) -> &'static str {
 }
 
 fn print_refusal(rt: &HostRuntime, error: BookError) -> io::Result<()> {
-    let number = error.fault.number();
+    let number = u16::from(error.fault);
     let name = name_of(error.fault);
     let entry = error.entry;
     println!(rt; "refused;{number};{name};{entry}")

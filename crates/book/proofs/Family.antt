@@ -1,8 +1,8 @@
 -- The children of each node of a well formed book are what their fields take.
-use Rattle.std.proofs.Common.{◌≡◌, ℕ, suc, ◌+◌, ◌-◌, ◌*◌, ◌<◌, true, ◌||◌, eqb, ltb, List, length, get_or, IfSome, Some, None, Option, sym, refl, ap, ◌∙◌, subst, inl, inr, ⊎_elim, arith}
+use Rattle.std.proofs.Common.{◌≡◌, ℕ, suc, ◌+◌, ◌-◌, ◌*◌, ◌<◌, true, ◌||◌, eqb, ltb, List, length, get_or, is_some, IfSome, Some, None, Option, sym, refl, ap, ◌∙◌, subst, inl, inr, ⊎_elim, arith}
 use Rattle.std.specs.Option.{option_map}
 use Rattle.std.specs.List.{slice_get}
-use Rattle.std.proofs.lemmas.Bool.{and_parts, cases_lt, cond_both, cond-false, eqb-false, eqb-true, ltb-true, ne_eqb, or_cases}
+use Rattle.std.proofs.lemmas.Bool.{and_parts, cases_lt, cond_both, cond-false, eqb-false, eqb-true, le-ltb, lt-ltb, ltb-true, ne_eqb, or_cases}
 use Rattle.syntax.specs.Numbers.{binary_operators, declaration_kinds, short_circuits, unary_operators}
 use Rattle.shape.specs.Shapes.{fields_of, shape_of}
 use Rattle.shape.specs.declared.Child.{Child}
@@ -13,11 +13,13 @@ use Rattle.shape.specs.declared.Field.{Field}
 use Rattle.shape.specs.declared.Field.TheVariants as F
 use Rattle.book.specs.Children.{AreChildren, Children, HaveBodies, HaveConditions, HaveSelectors, IsChild, MayBeChild}
 use Rattle.layout.specs.Layout.{construct, entries, field, groups, groups_from, place, shape, tail_from}
-use Rattle.book.specs.Nodes.{decode, items, listed, node_at, optional, paired, pairs}
-use Rattle.layout.specs.Verdict.{child_fits, is_child}
+use Rattle.book.specs.Nodes.{decode, node_at, optional}
+use Rattle.book.specs.Lists.{items, pairs}
+use Rattle.layout.specs.Verdict.{accepted, child_fits, is_child}
 use Rattle.layout.specs.WellFormed.{EachField, WellFormed}
+use Rattle.layout.proofs.Accepted.{loaded}
 use Rattle.book.specs.declared.node.Node.{Node}
-use Rattle.book.proofs.Reading.{listed_at, listed_past, node_past, node_within, paired_at, paired_past}
+use Rattle.book.proofs.Reading.{every_entry, listed_at, listed_past, node_past, node_within, paired_at, paired_past}
 
 module _ (ws : List ℕ) (e : ℕ) where
   -- what the test of a child says
@@ -76,15 +78,15 @@ module _ (ws : List ℕ) (e : ℕ) where
   some_one : {X : Type 0} (o : Option X) (x : X) → o ≡ None → o ≡ Some x → ⊥
   some_one o x n h = let w : ◌≡◌ {A = ℕ} 0 1 = cc in omega arith
 
-  from_listed : (s n i c : ℕ) → slice_get (listed ws (items s n)) i ≡ Some c → (i < n) × (c ≡ get_or ws (s + i) 0)
+  from_listed : (s n i c : ℕ) → slice_get (items ws s n) i ≡ Some c → (i < n) × (c ≡ get_or ws (s + i) 0)
   from_listed s n i c h =
       ⊎_elim
       (λ l.
-      ⊎_elim (λ k. let r = listed_at ws s n i l k in (l, cc)) (λ k. absurd (some_one (slice_get (listed ws (items s n)) i) c (listed_past ws s n i (inr k)) h))
+      ⊎_elim (λ k. let r = listed_at ws s n i l k in (l, cc)) (λ k. absurd (some_one (slice_get (items ws s n) i) c (listed_past ws s n i (inr k)) h))
       (cases_lt (s + i) (length ws)))
-      (λ l. absurd (some_one (slice_get (listed ws (items s n)) i) c (listed_past ws s n i (inl l)) h)) (cases_lt i n)
+      (λ l. absurd (some_one (slice_get (items ws s n) i) c (listed_past ws s n i (inl l)) h)) (cases_lt i n)
 
-  from_paired : (s n i : ℕ) (q : ℕ × ℕ) → slice_get (paired ws (pairs s n)) i ≡ Some q → (i < n) × (q.0 ≡ get_or ws (s + 2 * i) 0) × (q.1 ≡ get_or ws (s + 2 * i + 1) 0)
+  from_paired : (s n i : ℕ) (q : ℕ × ℕ) → slice_get (pairs ws s n) i ≡ Some q → (i < n) × (q.0 ≡ get_or ws (s + 2 * i) 0) × (q.1 ≡ get_or ws (s + 2 * i + 1) 0)
   from_paired s n i q h =
       ⊎_elim
       (λ l.
@@ -93,9 +95,9 @@ module _ (ws : List ℕ) (e : ℕ) where
       let r = paired_at ws s n i l k in
       let m : q ≡ (get_or ws (s + 2 * i) 0, get_or ws (s + 2 * i + 1) 0) = cc in
       (l, ap (λ (x : ℕ × ℕ). x.0) m, ap (λ (x : ℕ × ℕ). x.1) m))
-      (λ k. absurd (some_one (slice_get (paired ws (pairs s n)) i) q (paired_past ws s n i (inr k)) h))
+      (λ k. absurd (some_one (slice_get (pairs ws s n) i) q (paired_past ws s n i (inr k)) h))
       (cases_lt (s + 2 * i + 1) (length ws)))
-      (λ l. absurd (some_one (slice_get (paired ws (pairs s n)) i) q (paired_past ws s n i (inl l)) h)) (cases_lt i n)
+      (λ l. absurd (some_one (slice_get (pairs ws s n) i) q (paired_past ws s n i (inl l)) h)) (cases_lt i n)
 
   found_mapped : {X : Type 0} (f : X → Node) (P : Node → Type 0) (o : Option X) → ((x : X) → P (f x)) → IfSome (option_map f o) P
   found_mapped f P None h = tt
@@ -111,7 +113,7 @@ module _ (ws : List ℕ) (e : ℕ) where
     optional-at c is i k kind at h f =
         may_be_child kind (get_or ws k 0) (sym (ap (λ x. eqb (get_or ws x 0) 0 || is_child ws e kind (get_or ws x 0)) at) ∙ head p each c is i (F.Optional kind) h f)
 
-    list_at : (c : Construct) (is : construct ws p ≡ Some c) (h : ℕ) (kind : Child) → (shape_of (Some c)).head ≡ h → (shape_of (Some c)).group ≡ 1 → get_or (fields_of (Some c)) (h + 0) F.Absent ≡ F.Child kind → AreChildren ws e kind (items (p + (h + 1)) (get_or ws (p + h) 0))
+    list_at : (c : Construct) (is : construct ws p ≡ Some c) (h : ℕ) (kind : Child) → (shape_of (Some c)).head ≡ h → (shape_of (Some c)).group ≡ 1 → get_or (fields_of (Some c)) (h + 0) F.Absent ≡ F.Child kind → AreChildren ws e kind (items ws (p + (h + 1)) (get_or ws (p + h) 0))
     list_at c is h kind sh sg f i w n =
         let a = from_listed (p + (h + 1)) (get_or ws (p + h) 0) i w n in
         let g = group p each c is h 0 i 0 (F.Child kind) sh sg a.0 (omega arith) f in
@@ -119,21 +121,21 @@ module _ (ws : List ℕ) (e : ℕ) where
         is_child_lem kind w (ap (is_child ws e kind) a.1 ∙ sym (ap (λ x. is_child ws e kind (get_or ws x 0)) q) ∙ g)
 
     -- the second part of each pair is a body
-    bodies_at : (c : Construct) (is : construct ws p ≡ Some c) (h : ℕ) → (shape_of (Some c)).head ≡ h → (shape_of (Some c)).group ≡ 2 → get_or (fields_of (Some c)) (h + 1) F.Absent ≡ F.Child C.Body → HaveBodies ws e (pairs (p + (h + 1)) (get_or ws (p + h) 0))
+    bodies_at : (c : Construct) (is : construct ws p ≡ Some c) (h : ℕ) → (shape_of (Some c)).head ≡ h → (shape_of (Some c)).group ≡ 2 → get_or (fields_of (Some c)) (h + 1) F.Absent ≡ F.Child C.Body → HaveBodies ws e (pairs ws (p + (h + 1)) (get_or ws (p + h) 0))
     bodies_at c is h sh sg f i w n =
         let a = from_paired (p + (h + 1)) (get_or ws (p + h) 0) i w n in
         let g = group p each c is h 1 i 1 (F.Child C.Body) sh sg a.0 (omega arith) f in
         let q : p + 1 + h + 2 * i + 1 ≡ p + (h + 1) + 2 * i + 1 = omega arith in
         is_child_lem C.Body w.1 (ap (is_child ws e C.Body) a.2 ∙ sym (ap (λ x. is_child ws e C.Body (get_or ws x 0)) q) ∙ g)
 
-    conditions_at : (c : Construct) (is : construct ws p ≡ Some c) (h : ℕ) → (shape_of (Some c)).head ≡ h → (shape_of (Some c)).group ≡ 2 → get_or (fields_of (Some c)) (h + 0) F.Absent ≡ F.Child C.Expression → HaveConditions ws e (pairs (p + (h + 1)) (get_or ws (p + h) 0))
+    conditions_at : (c : Construct) (is : construct ws p ≡ Some c) (h : ℕ) → (shape_of (Some c)).head ≡ h → (shape_of (Some c)).group ≡ 2 → get_or (fields_of (Some c)) (h + 0) F.Absent ≡ F.Child C.Expression → HaveConditions ws e (pairs ws (p + (h + 1)) (get_or ws (p + h) 0))
     conditions_at c is h sh sg f i w n =
         let a = from_paired (p + (h + 1)) (get_or ws (p + h) 0) i w n in
         let g = group p each c is h 1 i 0 (F.Child C.Expression) sh sg a.0 (omega arith) f in
         let q : p + 1 + h + 2 * i + 0 ≡ p + (h + 1) + 2 * i = omega arith in
         is_child_lem C.Expression w.0 (ap (is_child ws e C.Expression) a.1 ∙ sym (ap (λ x. is_child ws e C.Expression (get_or ws x 0)) q) ∙ g)
 
-    selectors_at : (c : Construct) (is : construct ws p ≡ Some c) (h : ℕ) → (shape_of (Some c)).head ≡ h → (shape_of (Some c)).group ≡ 2 → get_or (fields_of (Some c)) (h + 0) F.Absent ≡ F.Optional C.Expression → HaveSelectors ws e (pairs (p + (h + 1)) (get_or ws (p + h) 0))
+    selectors_at : (c : Construct) (is : construct ws p ≡ Some c) (h : ℕ) → (shape_of (Some c)).head ≡ h → (shape_of (Some c)).group ≡ 2 → get_or (fields_of (Some c)) (h + 0) F.Absent ≡ F.Optional C.Expression → HaveSelectors ws e (pairs ws (p + (h + 1)) (get_or ws (p + h) 0))
     selectors_at c is h sh sg f i w n nz =
         let a = from_paired (p + (h + 1)) (get_or ws (p + h) 0) i w n in
         let g = group p each c is h 1 i 0 (F.Optional C.Expression) sh sg a.0 (omega arith) f in
@@ -221,3 +223,12 @@ module _ (ws : List ℕ) (e : ℕ) where
       (family (place ws e) (w.children e h) (construct ws (place ws e)) refl))
       (λ h. subst (λ (o : Option Node). IfSome o (Children ws e)) (sym (node_past ws e h)) tt)
       (cases_lt e (entries ws))
+
+-- What is known of a loaded book's node
+pub known_every : (ws : List ℕ) (e : ℕ) → accepted ws ≡ true → is_some (node_at ws e) ≡ ltb e (entries ws)
+known_every ws e ok =
+    ⊎_elim (λ h. every_entry ws e (loaded ws ok) h ∙ sym (lt-ltb e (entries ws) h)) (λ h. ap is_some (node_past ws e h) ∙ sym (le-ltb e (entries ws) h))
+    (cases_lt e (entries ws))
+
+pub known_children : (ws : List ℕ) (e : ℕ) → accepted ws ≡ true → IfSome (node_at ws e) (Children ws e)
+known_children ws e ok = children_of_lem ws e (loaded ws ok)

@@ -1,38 +1,117 @@
 // What an entry of a loaded book says.
-ghost use Rattle.std.specs.Prelude.{◌≡◌, ◌≤◌, true, is_some, IfSome, nat_lt};
+ghost use Rattle.std.specs.Prelude.{◌≡◌, ◌≤◌, length, is_some, IfSome, nat_lt};
 ghost use Rattle.std.specs.List.{slice_get};
+ghost use Rattle.std.specs.Iterator.{YieldsFirst, item_count};
 ghost use Rattle.book.specs.Children.{Children};
 ghost use Rattle.layout.specs.Layout.{entries};
-ghost use Rattle.book.specs.Nodes.{assignment_node, binary_node, declaration_node, for_node, function_node, if_node, listed, literal_node, node_at, node_of, optional, optional_type, paired, unary_node};
+ghost use Rattle.book.specs.Lists.{items, pairs};
+ghost use Rattle.book.specs.Nodes.{node_at, node_of, optional, optional_type};
 
 use crate::book::Book;
 use layout::walk::{construct_at, word};
 use shape::Construct;
+use std::marker::Model;
 use syntax::{BinaryOperator, DeclarationKind, ShortCircuit, UnaryOperator};
 
-// A list of words in the book.
-#[derive(Clone, Copy)]
-pub struct Items {
-    pub start: usize,
-    pub count: u16,
+// A list of words in the book, which are read in turn.
+#[derive(Clone, Drop)]
+pub struct Items<'a> {
+    words: &'a [u16],
 }
 
-// A list of pairs of words in the book.
-#[derive(Clone, Copy)]
-pub struct Pairs {
-    pub start: usize,
-    pub count: u16,
+impl<'a> Model for Items<'a> {
+    ghost use Rattle.std.specs.Prelude.{ℕ, List};
+
+    ghost Value = { List ℕ };
+
+    ghost view = { λ s. s.words.now };
 }
 
-// An entry's construct with its parts; children are entries, and lists are spans of the book's words.
-#[derive(Clone, Copy)]
-pub enum Node {
+impl Items<'_> {
+    // How many words are left.
+    pub fn len(&self) -> usize
+        ensures { result ≡ length self.now }
+    {
+        self.words.len()
+    }
+
+    // The i-th word, none past the end.
+    pub fn get(&self, i: usize) -> Option<u16>
+        ensures { result ≡ slice_get self.now i }
+    {
+        self.words.get(i).copied()
+    }
+}
+
+impl<'a> Iterator for Items<'a> {
+    type Item = u16;
+
+    ghost next_gives = { YieldsFirst (λ s. s) };
+
+    ghost remaining = { item_count (λ s. s) };
+
+    fn next(&mut self) -> Option<u16> {
+        let (first, rest) = self.words.split_first()?;
+        self.words = rest;
+        Some(*first)
+    }
+}
+
+// A list of pairs of words in the book, which are read in turn. It is a type of its own, since a list of `T` would show
+// contracts a pair as a list of two words.
+#[derive(Clone, Drop)]
+pub struct Pairs<'a> {
+    pairs: &'a [[u16; 2]],
+}
+
+impl<'a> Model for Pairs<'a> {
+    ghost use Rattle.std.specs.Prelude.{ℕ, List, map};
+    ghost use Rattle.book.specs.Lists.{as_pair};
+
+    ghost Value = { List (ℕ × ℕ) };
+
+    ghost view = { λ s. map as_pair s.pairs.now };
+}
+
+impl Pairs<'_> {
+    // How many pairs are left.
+    pub fn len(&self) -> usize
+        ensures { result ≡ length self.now }
+    {
+        self.pairs.len()
+    }
+
+    // The i-th pair, none past the end.
+    pub fn get(&self, i: usize) -> Option<(u16, u16)>
+        ensures { result ≡ slice_get self.now i }
+    {
+        self.pairs.get(i).map(|[first, second]| (*first, *second))
+    }
+}
+
+impl<'a> Iterator for Pairs<'a> {
+    type Item = (u16, u16);
+
+    ghost next_gives = { YieldsFirst (λ s. s) };
+
+    ghost remaining = { item_count (λ s. s) };
+
+    fn next(&mut self) -> Option<(u16, u16)> {
+        let ([first, second], rest) = self.pairs.split_first()?;
+        self.pairs = rest;
+        Some((*first, *second))
+    }
+}
+
+// An entry's construct with its parts; children are entries, and lists are parts of the book's words.
+#[derive(Clone, Drop)]
+pub enum Node<'a> {
     Unit {
-        children: Items,
+        children: Items<'a>,
     },
     Empty,
     Compound {
-        statements: Items,
+        statements: Items<'a>,
     },
     // `=` has no operator
     Assignment {
@@ -48,13 +127,13 @@ pub enum Node {
     },
     // a condition and a body each
     If {
-        clauses: Pairs,
+        clauses: Pairs<'a>,
         otherwise: Option<u16>,
     },
     // a selector, 0 for default, and a body each
     Switch {
         expression: u16,
-        clauses: Pairs,
+        clauses: Pairs<'a>,
     },
     Loop {
         body: u16,
@@ -118,7 +197,7 @@ pub enum Node {
     },
     Call {
         name: u16,
-        arguments: Items,
+        arguments: Items<'a>,
     },
     // a name and a type for each parameter
     Function {
@@ -127,7 +206,7 @@ pub enum Node {
         must_use: bool,
         ty: Option<u16>,
         body: u16,
-        parameters: Pairs,
+        parameters: Pairs<'a>,
     },
 }
 
@@ -135,136 +214,38 @@ pub enum Node {
 pub fn optional(word: u16) -> Option<u16>
     ensures { result ≡ optional word }
 {
-    if word == 0 { None } else { Some(word) }
+    (word != 0).then_some(word)
 }
 
 // A type that may be absent.
 fn optional_type(word: u16) -> Option<u16>
     ensures { result ≡ optional_type word }
 {
-    if word == 65535 { None } else { Some(word) }
+    (word != u16::MAX).then_some(word)
 }
 
-fn assignment_node(number: u16, lhs: u16, rhs: u16) -> Option<Node>
-    ensures { result ≡ assignment_node number lhs rhs }
+// The `n` words that stand from a place on, fewer where the words end.
+fn words_from(ws: &[u16], from: usize, n: usize) -> &[u16]
+    ensures { result.now ≡ items ws.now from n }
 {
-    if number == 0 {
-        return Some(Node::Assignment {
-            operator: None,
-            lhs,
-            rhs,
-        });
-    }
-    let operator = BinaryOperator::from_number(number - 1)?;
-    Some(Node::Assignment {
-        operator: Some(operator),
-        lhs,
-        rhs,
-    })
+    let rest = &ws[from.min(ws.len())..];
+    &rest[..n.min(rest.len())]
 }
 
-fn binary_node(number: u16, left: u16, right: u16) -> Option<Node>
-    ensures { result ≡ binary_node number left right }
+fn items_from(ws: &[u16], from: usize, n: u16) -> Items
+    ensures { result ≡ items ws.now from n }
 {
-    if number < 14 {
-        let operator = BinaryOperator::from_number(number)?;
-        return Some(Node::Binary {
-            operator,
-            left,
-            right,
-        });
-    }
-    let operator = ShortCircuit::from_number(number - 14)?;
-    Some(Node::ShortCircuit {
-        operator,
-        left,
-        right,
-    })
-}
-
-fn unary_node(number: u16, operand: u16) -> Option<Node>
-    ensures { result ≡ unary_node number operand }
-{
-    let operator = UnaryOperator::from_number(number)?;
-    Some(Node::Unary { operator, operand })
-}
-
-// Behind its clauses an `if` has the body of its else.
-fn if_node(ws: &[u16], p: usize) -> Node
-    requires { p ≤ 65535 }
-    ensures { result ≡ if_node ws.now p }
-{
-    let count = word(ws, p + 1);
-    let otherwise = optional(word(ws, p + 2 + 2 * count as usize));
-    Node::If {
-        clauses: Pairs {
-            start: p + 2,
-            count,
-        },
-        otherwise,
+    Items {
+        words: words_from(ws, from, n as usize),
     }
 }
 
-fn for_node(ws: &[u16], p: usize) -> Node
-    requires { p ≤ 65535 }
-    ensures { result ≡ for_node ws.now p }
+#[tactic(auto, using(crate::proofs::Lists::pairs_of_chunks))]
+fn pairs_from(ws: &[u16], from: usize, n: u16) -> Pairs
+    ensures { result ≡ pairs ws.now from n }
 {
-    Node::For {
-        initializer: optional(word(ws, p + 1)),
-        condition: optional(word(ws, p + 2)),
-        update: optional(word(ws, p + 3)),
-        body: word(ws, p + 4),
-    }
-}
-
-fn declaration_node(ws: &[u16], p: usize) -> Option<Node>
-    requires { p ≤ 65535 }
-    ensures { result ≡ declaration_node ws.now p }
-{
-    let kind = DeclarationKind::from_number(word(ws, p + 1))?;
-    let name = word(ws, p + 2);
-    let ty = optional_type(word(ws, p + 3));
-    let initializer = optional(word(ws, p + 4));
-    Some(Node::Declaration {
-        kind,
-        name,
-        ty,
-        initializer,
-    })
-}
-
-fn literal_node(ws: &[u16], p: usize) -> Node
-    requires { p ≤ 65535 }
-    ensures { result ≡ literal_node ws.now p }
-{
-    let words = [
-        word(ws, p + 2),
-        word(ws, p + 3),
-        word(ws, p + 4),
-        word(ws, p + 5),
-    ];
-    Node::Literal {
-        kind: word(ws, p + 1),
-        words,
-    }
-}
-
-fn function_node(ws: &[u16], p: usize) -> Node
-    requires { p ≤ 65535 }
-    ensures { result ≡ function_node ws.now p }
-{
-    let flags = word(ws, p + 2);
-    Node::Function {
-        name: word(ws, p + 1),
-        is_const: flags % 2 == 1,
-        must_use: flags >= 2,
-        ty: optional_type(word(ws, p + 3)),
-        body: word(ws, p + 4),
-        parameters: Pairs {
-            start: p + 6,
-            count: word(ws, p + 5),
-        },
-    }
+    let (pairs, _) = words_from(ws, from, 2 * n as usize).as_chunks::<2>();
+    Pairs { pairs }
 }
 
 // The node of a construct whose body stands at `p`.
@@ -272,128 +253,147 @@ fn node_of(construct: Construct, ws: &[u16], p: usize) -> Option<Node>
     requires { p ≤ 65535 }
     ensures { result ≡ node_of construct ws.now p }
 {
-    let node = match construct {
-        Construct::Unit => Node::Unit {
-            children: Items {
-                start: p + 2,
-                count: word(ws, p + 1),
+    match construct {
+        Construct::Unit => Some(Node::Unit {
+            children: items_from(ws, p + 2, word(ws, p + 1)),
+        }),
+        Construct::Empty => Some(Node::Empty),
+        Construct::Compound => Some(Node::Compound {
+            statements: items_from(ws, p + 2, word(ws, p + 1)),
+        }),
+        Construct::Assignment => Some(Node::Assignment {
+            operator: match word(ws, p + 1) {
+                0 => None,
+                number => Some(BinaryOperator::try_from(number - 1).ok()?),
             },
-        },
-        Construct::Empty => Node::Empty,
-        Construct::Compound => Node::Compound {
-            statements: Items {
-                start: p + 2,
-                count: word(ws, p + 1),
-            },
-        },
-        Construct::Assignment => return assignment_node(
-            word(ws, p + 1),
-            word(ws, p + 2),
-            word(ws, p + 3),
-        ),
-        Construct::Increment => Node::Increment {
+            lhs: word(ws, p + 2),
+            rhs: word(ws, p + 3),
+        }),
+        Construct::Increment => Some(Node::Increment {
             operand: word(ws, p + 1),
-        },
-        Construct::Decrement => Node::Decrement {
+        }),
+        Construct::Decrement => Some(Node::Decrement {
             operand: word(ws, p + 1),
+        }),
+        // behind its clauses an `if` has the body of its else
+        Construct::If => {
+            let count = word(ws, p + 1);
+            Some(Node::If {
+                clauses: pairs_from(ws, p + 2, count),
+                otherwise: optional(word(ws, p + 2 + 2 * count as usize)),
+            })
         },
-        Construct::If => return Some(if_node(ws, p)),
-        Construct::Switch => Node::Switch {
+        Construct::Switch => Some(Node::Switch {
             expression: word(ws, p + 1),
-            clauses: Pairs {
-                start: p + 3,
-                count: word(ws, p + 2),
-            },
-        },
-        Construct::Loop => Node::Loop {
+            clauses: pairs_from(ws, p + 3, word(ws, p + 2)),
+        }),
+        Construct::Loop => Some(Node::Loop {
             body: word(ws, p + 1),
             continuing: optional(word(ws, p + 2)),
-        },
-        Construct::For => return Some(for_node(ws, p)),
-        Construct::While => Node::While {
+        }),
+        Construct::For => Some(Node::For {
+            initializer: optional(word(ws, p + 1)),
+            condition: optional(word(ws, p + 2)),
+            update: optional(word(ws, p + 3)),
+            body: word(ws, p + 4),
+        }),
+        Construct::While => Some(Node::While {
             condition: word(ws, p + 1),
             body: word(ws, p + 2),
-        },
-        Construct::Break => Node::Break,
-        Construct::Continue => Node::Continue,
-        Construct::Return => Node::Return {
+        }),
+        Construct::Break => Some(Node::Break),
+        Construct::Continue => Some(Node::Continue),
+        Construct::Return => Some(Node::Return {
             expression: optional(word(ws, p + 1)),
-        },
-        Construct::Discard => Node::Discard,
-        Construct::CallStatement => Node::CallStatement {
+        }),
+        Construct::Discard => Some(Node::Discard),
+        Construct::CallStatement => Some(Node::CallStatement {
             call: word(ws, p + 1),
-        },
-        Construct::ConstAssert => Node::ConstAssert {
+        }),
+        Construct::ConstAssert => Some(Node::ConstAssert {
             expression: word(ws, p + 1),
-        },
-        Construct::Declaration => return declaration_node(ws, p),
-        Construct::Continuing => Node::Continuing {
+        }),
+        Construct::Declaration => Some(Node::Declaration {
+            kind: DeclarationKind::try_from(word(ws, p + 1)).ok()?,
+            name: word(ws, p + 2),
+            ty: optional_type(word(ws, p + 3)),
+            initializer: optional(word(ws, p + 4)),
+        }),
+        Construct::Continuing => Some(Node::Continuing {
             body: word(ws, p + 1),
             break_if: optional(word(ws, p + 2)),
-        },
-        Construct::Literal => return Some(literal_node(ws, p)),
-        Construct::Parenthesized => Node::Parenthesized {
+        }),
+        Construct::Literal => Some(Node::Literal {
+            kind: word(ws, p + 1),
+            words: [
+                word(ws, p + 2),
+                word(ws, p + 3),
+                word(ws, p + 4),
+                word(ws, p + 5),
+            ],
+        }),
+        Construct::Parenthesized => Some(Node::Parenthesized {
             expression: word(ws, p + 1),
+        }),
+        Construct::Unary => Some(Node::Unary {
+            operator: UnaryOperator::try_from(word(ws, p + 1)).ok()?,
+            operand: word(ws, p + 2),
+        }),
+        // the short circuits follow the 14 other operators
+        Construct::Binary => match word(ws, p + 1) {
+            number @ 0..14 => Some(Node::Binary {
+                operator: BinaryOperator::try_from(number).ok()?,
+                left: word(ws, p + 2),
+                right: word(ws, p + 3),
+            }),
+            number => Some(Node::ShortCircuit {
+                operator: ShortCircuit::try_from(number - 14).ok()?,
+                left: word(ws, p + 2),
+                right: word(ws, p + 3),
+            }),
         },
-        Construct::Unary => return unary_node(word(ws, p + 1), word(ws, p + 2)),
-        Construct::Binary => return binary_node(word(ws, p + 1), word(ws, p + 2), word(ws, p + 3)),
-        Construct::Name => Node::Name {
+        Construct::Name => Some(Node::Name {
             name: word(ws, p + 1),
-        },
-        Construct::Call => Node::Call {
+        }),
+        Construct::Call => Some(Node::Call {
             name: word(ws, p + 1),
-            arguments: Items {
-                start: p + 3,
-                count: word(ws, p + 2),
-            },
+            arguments: items_from(ws, p + 3, word(ws, p + 2)),
+        }),
+        Construct::Function => {
+            let flags = word(ws, p + 2);
+            Some(Node::Function {
+                name: word(ws, p + 1),
+                is_const: flags % 2 == 1,
+                must_use: flags >= 2,
+                ty: optional_type(word(ws, p + 3)),
+                body: word(ws, p + 4),
+                parameters: pairs_from(ws, p + 6, word(ws, p + 5)),
+            })
         },
-        Construct::Function => return Some(function_node(ws, p)),
-    };
-    Some(node)
+    }
+}
+
+// What an entry says, by the words of its book; none past the last.
+#[tactic(auto, unfolding(crate::specs::Nodes::node_at))]
+fn node_in(words: &[u16], entry: u16) -> Option<Node>
+    ensures { result ≡ node_at words.now entry }
+{
+    if entry >= word(words, 0) {
+        return None;
+    }
+    let at = word(words, entry as usize + 1) as usize;
+    let construct = construct_at(words, at)?;
+    node_of(construct, words, at)
 }
 
 impl<'a> Book<'a> {
     // What an entry says; none exactly if the book has no such entry.
-    pub fn node(&self, entry: u16) -> Option<Node>
+    #[tactic(auto, using(crate::proofs::Family::known_every, crate::proofs::Family::known_children))]
+    pub fn node(&self, entry: u16) -> Option<Node<'a>>
         ensures value { result ≡ node_at self.now.words.now entry }
         ensures every { is_some result ≡ nat_lt entry (entries self.now.words.now) }
         ensures children { IfSome result (Children self.now.words.now entry) }
     {
-        if entry >= self.entries() {
-            return None;
-        }
-        let at = word(self.words, entry as usize + 1) as usize;
-        let construct = construct_at(self.words, at)?;
-        node_of(construct, self.words, at)
-    }
-
-    // The i-th word of a list, none past its end.
-    pub fn item(&self, items: Items, i: u16) -> Option<u16>
-        ensures { result ≡ slice_get (listed self.now.words.now items) i }
-    {
-        if i >= items.count || items.start >= self.words.len() {
-            return None;
-        }
-        let at = items.start + i as usize;
-        if at < self.words.len() {
-            Some(self.words[at])
-        } else {
-            None
-        }
-    }
-
-    // The i-th pair of a list, none past its end.
-    pub fn pair(&self, pairs: Pairs, i: u16) -> Option<(u16, u16)>
-        ensures { result ≡ slice_get (paired self.now.words.now pairs) i }
-    {
-        if i >= pairs.count || pairs.start >= self.words.len() {
-            return None;
-        }
-        let at = pairs.start + 2 * i as usize;
-        if at + 1 < self.words.len() {
-            Some((self.words[at], self.words[at + 1]))
-        } else {
-            None
-        }
+        node_in(self.words, entry)
     }
 }

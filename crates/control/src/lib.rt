@@ -6,15 +6,15 @@ ghost use Rattle.control.specs.Control.{control, control_of, exits, is_statement
 use book::book::Book;
 use book::node::{Items, Node, Pairs};
 
-#[derive(Clone, Copy)]
-pub enum Control {
+#[derive(Clone, Drop)]
+pub enum Control<'a> {
     // no statement
     Other,
     // a statement that only goes on
     Plain,
-    Sequence(Items),
-    If(Pairs, Option<u16>),
-    Switch(Pairs),
+    Sequence(Items<'a>),
+    If(Pairs<'a>, Option<u16>),
+    Switch(Pairs<'a>),
     // a body, and the continuing
     Loop(u16, Option<u16>),
     // a body under a condition: `while`, and `for` with one
@@ -31,12 +31,10 @@ pub enum Control {
     Function(u16, bool, u16),
 }
 
-fn control_of(node: Option<Node>) -> Control
-    ensures { result ≡ control_of node }
+// That of a node.
+fn control_of(node: Node) -> Control
+    ensures { result ≡ control_of (Some node.entry) }
 {
-    let Some(node) = node else {
-        return Control::Other;
-    };
     match node {
         Node::Compound { statements } => Control::Sequence(statements),
         Node::If { clauses, otherwise } => Control::If(clauses, otherwise),
@@ -71,26 +69,24 @@ fn control_of(node: Option<Node>) -> Control
 }
 
 // That of an entry.
-pub fn control_at(book: &Book, entry: u16) -> Control
+#[tactic(auto, unfolding(crate::specs::Control::control))]
+pub fn control_at<'a>(book: &Book<'a>, entry: u16) -> Control<'a>
     ensures { result ≡ control book.now.words.now entry }
 {
-    control_of(book.node(entry))
+    book.node(entry).map_or(Control::Other, control_of)
 }
 
-impl Control {
+impl Control<'_> {
     // Whether it is a continuing with a break-if.
-    pub fn exits(self) -> bool
-        ensures { result ≡ exits self }
+    pub fn exits(&self) -> bool
+        ensures { result ≡ exits self.now }
     {
-        match self {
-            Control::Continuing(_, exits) => exits,
-            _ => false,
-        }
+        matches!(self, Control::Continuing(_, true))
     }
 
     // Whether it is that of a statement.
-    pub fn is_statement(self) -> bool
-        ensures { result ≡ is_statement self }
+    pub fn is_statement(&self) -> bool
+        ensures { result ≡ is_statement self.now }
     {
         !matches!(
             self,

@@ -1,10 +1,10 @@
 // What an entry of a loaded book says.
-ghost use Rattle.std.specs.Prelude.{◌≡◌, ◌≤◌, length, is_some, IfSome, nat_lt};
+ghost use Rattle.std.specs.Prelude.{◌≡◌, ◌≤◌, length, map, is_some, IfSome, nat_lt};
 ghost use Rattle.std.specs.List.{slice_get};
 ghost use Rattle.std.specs.Iterator.{YieldsFirst, item_count};
 ghost use Rattle.book.specs.Children.{Children};
 ghost use Rattle.layout.specs.Layout.{entries};
-ghost use Rattle.book.specs.Lists.{items, pairs};
+ghost use Rattle.book.specs.Lists.{as_pair, items, pairs};
 ghost use Rattle.book.specs.Nodes.{node_at, node_of, optional, optional_type};
 
 use crate::book::Book;
@@ -27,7 +27,14 @@ impl<'a> Model for Items<'a> {
     ghost view = { λ s. s.words.now };
 }
 
-impl Items<'_> {
+impl<'a> Items<'a> {
+    // The words that are left.
+    pub fn as_slice(&self) -> &'a [u16]
+        ensures { result.now ≡ self.now }
+    {
+        &self.words[..]
+    }
+
     // How many words are left.
     pub fn len(&self) -> usize
         ensures { result ≡ length self.now }
@@ -73,7 +80,14 @@ impl<'a> Model for Pairs<'a> {
     ghost view = { λ s. map as_pair s.pairs.now };
 }
 
-impl Pairs<'_> {
+impl<'a> Pairs<'a> {
+    // The pairs that are left.
+    pub fn as_slice(&self) -> &'a [[u16; 2]]
+        ensures { map as_pair result.now ≡ self.now }
+    {
+        &self.pairs[..]
+    }
+
     // How many pairs are left.
     pub fn len(&self) -> usize
         ensures { result ≡ length self.now }

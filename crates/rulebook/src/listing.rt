@@ -1,391 +1,179 @@
 // The listing of a book: a line for each entry.
-use book::book::Book;
 use book::node::{Items, Node, Pairs, optional};
-use std::alloc::{AllocError, Global};
-use syntax::{BinaryOperator, DeclarationKind, ShortCircuit, UnaryOperator};
+use host::literal_number;
+use std::fmt::{Display, Formatter, Result, Write};
+use syntax::BinaryOperator;
 
-// What stands in a part of a node.
-#[derive(Clone, Copy)]
-enum Value {
-    Absent,
-    Set,
-    Number(u16),
-    Literal([u16; 4]),
-    Unary(UnaryOperator),
-    Binary(BinaryOperator),
-    ShortCircuit(ShortCircuit),
-    Assignment(Option<BinaryOperator>),
-    Kind(DeclarationKind),
-    Items(Items),
-    Pairs(Pairs),
-    // pairs of which an absent first part is the default
-    Cases(Pairs),
-}
+// A part that may be absent, behind its name.
+#[derive(Drop)]
+struct Part(&'static str, Option<u16>);
 
-// The name of a part.
-#[derive(Clone, Copy)]
-enum Label {
-    Arguments,
-    Body,
-    BreakIf,
-    Call,
-    Children,
-    Clauses,
-    Condition,
-    Const,
-    Continuing,
-    Else,
-    Expression,
-    Initializer,
-    Kind,
-    Left,
-    Lhs,
-    MustUse,
-    Name,
-    Number,
-    Operand,
-    Operator,
-    Parameters,
-    Rhs,
-    Right,
-    Statements,
-    Type,
-    Update,
-}
-
-impl Label {
-    fn name(self) -> &'static str {
-        match self {
-            Label::Arguments => "arguments",
-            Label::Body => "body",
-            Label::BreakIf => "break-if",
-            Label::Call => "call",
-            Label::Children => "children",
-            Label::Clauses => "clauses",
-            Label::Condition => "condition",
-            Label::Const => "const",
-            Label::Continuing => "continuing",
-            Label::Else => "else",
-            Label::Expression => "expression",
-            Label::Initializer => "initializer",
-            Label::Kind => "kind",
-            Label::Left => "left",
-            Label::Lhs => "lhs",
-            Label::MustUse => "must-use",
-            Label::Name => "name",
-            Label::Number => "number",
-            Label::Operand => "operand",
-            Label::Operator => "operator",
-            Label::Parameters => "parameters",
-            Label::Rhs => "rhs",
-            Label::Right => "right",
-            Label::Statements => "statements",
-            Label::Type => "type",
-            Label::Update => "update",
+impl Display for Part {
+    fn fmt<W: Write>(&self, f: &mut Formatter<W>) -> Result {
+        match self.1 {
+            Some(value) => write!(f, " {}={value}", self.0),
+            None => Ok(()),
         }
     }
 }
 
-// A part of a node under its name.
-#[derive(Clone, Copy)]
-struct Part {
-    label: Label,
-    value: Value,
-}
+// A word that stands there or does not.
+#[derive(Drop)]
+struct Flag(&'static str, bool);
 
-const NOTHING: Part = Part {
-    label: Label::Body,
-    value: Value::Absent,
-};
-
-fn field(label: Label, value: Value) -> Part {
-    Part { label, value }
-}
-
-fn number(label: Label, value: u16) -> Part {
-    field(label, Value::Number(value))
-}
-
-fn maybe(label: Label, value: Option<u16>) -> Part {
-    match value {
-        Some(value) => number(label, value),
-        None => NOTHING,
+impl Display for Flag {
+    fn fmt<W: Write>(&self, f: &mut Formatter<W>) -> Result {
+        if self.1 { write!(f, " {}", self.0) } else { Ok(()) }
     }
 }
 
-fn flag(label: Label, set: bool) -> Part {
-    if set {
-        field(label, Value::Set)
-    } else {
-        NOTHING
+// `=`, or the operator before it.
+#[derive(Drop)]
+struct Assigned(Option<BinaryOperator>);
+
+impl Display for Assigned {
+    fn fmt<W: Write>(&self, f: &mut Formatter<W>) -> Result {
+        match self.0 {
+            Some(operator) => write!(f, "{operator}="),
+            None => f.write_str("="),
+        }
+    }
+}
+
+// A list in brackets, each of its items written by `each`.
+fn bracketed<T: Copy, W: Write, F: Fn(T, &mut Formatter<W>) -> Result>(
+    f: &mut Formatter<W>,
+    items: &[T],
+    each: F,
+) -> Result
+    requires { F.IsAlwaysCallable each }
+{
+    f.write_str("[")?;
+    for (i, item) in items.iter().enumerate() {
+        if i > 0 {
+            f.write_str(" ")?;
+        }
+        each(*item, f)?;
+    }
+    f.write_str("]")
+}
+
+// Entries.
+#[derive(Drop)]
+struct List<'a>(&'a Items<'a>);
+
+impl Display for List<'_> {
+    fn fmt<W: Write>(&self, f: &mut Formatter<W>) -> Result {
+        bracketed(f, self.0.as_slice(), |entry, f| write!(f, "{entry}"))
     }
 }
 
-fn one(a: Part) -> [Part; 6] {
-    [a, NOTHING, NOTHING, NOTHING, NOTHING, NOTHING]
-}
+// Pairs of words: the clauses of an `if`, or parameters.
+#[derive(Drop)]
+struct Clauses<'a>(&'a Pairs<'a>);
 
-fn two(a: Part, b: Part) -> [Part; 6] {
-    [a, b, NOTHING, NOTHING, NOTHING, NOTHING]
-}
-
-fn three(a: Part, b: Part, c: Part) -> [Part; 6] {
-    [a, b, c, NOTHING, NOTHING, NOTHING]
-}
-
-fn four(a: Part, b: Part, c: Part, d: Part) -> [Part; 6] {
-    [a, b, c, d, NOTHING, NOTHING]
-}
-
-fn binary(operator: Value, left: u16, right: u16) -> [Part; 6] {
-    three(
-        field(Label::Operator, operator),
-        number(Label::Left, left),
-        number(Label::Right, right),
-    )
-}
-
-// How a construct is called.
-fn construct_of(node: Node) -> &'static str {
-    match node {
-        Node::Unit { .. } => "unit",
-        Node::Empty => "empty",
-        Node::Compound { .. } => "compound",
-        Node::Assignment { .. } => "assignment",
-        Node::Increment { .. } => "increment",
-        Node::Decrement { .. } => "decrement",
-        Node::If { .. } => "if",
-        Node::Switch { .. } => "switch",
-        Node::Loop { .. } => "loop",
-        Node::For { .. } => "for",
-        Node::While { .. } => "while",
-        Node::Break => "break",
-        Node::Continue => "continue",
-        Node::Return { .. } => "return",
-        Node::Discard => "discard",
-        Node::CallStatement { .. } => "call-statement",
-        Node::ConstAssert { .. } => "const-assert",
-        Node::Declaration { .. } => "declaration",
-        Node::Continuing { .. } => "continuing",
-        Node::Literal { .. } => "literal",
-        Node::Parenthesized { .. } => "parenthesized",
-        Node::Unary { .. } => "unary",
-        Node::Binary { .. } | Node::ShortCircuit { .. } => "binary",
-        Node::Name { .. } => "name",
-        Node::Call { .. } => "call",
-        Node::Function { .. } => "function",
+impl Display for Clauses<'_> {
+    fn fmt<W: Write>(&self, f: &mut Formatter<W>) -> Result {
+        bracketed(f, self.0.as_slice(), |[first, second], f| write!(f, "{first}:{second}"))
     }
 }
 
-// The parts of a node, in order.
-fn parts_of(node: Node) -> [Part; 6] {
-    match node {
-        Node::Unit { children } => one(field(Label::Children, Value::Items(children))),
-        Node::Empty => one(NOTHING),
-        Node::Compound { statements } => one(field(Label::Statements, Value::Items(statements))),
-        Node::Assignment { operator, lhs, rhs } => {
-            three(
-                field(Label::Operator, Value::Assignment(operator)),
-                number(Label::Lhs, lhs),
-                number(Label::Rhs, rhs),
-            )
+// The selector of a clause.
+#[derive(Drop)]
+struct Selector(u16);
+
+impl Display for Selector {
+    fn fmt<W: Write>(&self, f: &mut Formatter<W>) -> Result {
+        match optional(self.0) {
+            Some(selector) => write!(f, "{selector}"),
+            None => f.write_str("default"),
         }
-        Node::Increment { operand } => one(number(Label::Operand, operand)),
-        Node::Decrement { operand } => one(number(Label::Operand, operand)),
-        Node::If { clauses, otherwise } => two(
-            field(Label::Clauses, Value::Pairs(clauses)),
-            maybe(Label::Else, otherwise),
-        ),
-        Node::Switch {
-            expression,
-            clauses,
-        } => {
-            two(
-                number(Label::Expression, expression),
-                field(Label::Clauses, Value::Cases(clauses)),
-            )
-        }
-        Node::Loop { body, continuing } => two(
-            number(Label::Body, body),
-            maybe(Label::Continuing, continuing),
-        ),
-        Node::For {
-            initializer,
-            condition,
-            update,
-            body,
-        } => four(
-            maybe(Label::Initializer, initializer),
-            maybe(Label::Condition, condition),
-            maybe(Label::Update, update),
-            number(Label::Body, body),
-        ),
-        Node::While { condition, body } => two(
-            number(Label::Condition, condition),
-            number(Label::Body, body),
-        ),
-        Node::Break => one(NOTHING),
-        Node::Continue => one(NOTHING),
-        Node::Return { expression } => one(maybe(Label::Expression, expression)),
-        Node::Discard => one(NOTHING),
-        Node::CallStatement { call } => one(number(Label::Call, call)),
-        Node::ConstAssert { expression } => one(number(Label::Expression, expression)),
-        Node::Declaration {
-            kind,
-            name,
-            ty,
-            initializer,
-        } => four(
-            field(Label::Kind, Value::Kind(kind)),
-            number(Label::Name, name),
-            maybe(Label::Type, ty),
-            maybe(Label::Initializer, initializer),
-        ),
-        Node::Continuing { body, break_if } => two(
-            number(Label::Body, body),
-            maybe(Label::BreakIf, break_if),
-        ),
-        Node::Literal { kind, words } => {
-            two(
-                number(Label::Kind, kind),
-                field(Label::Number, Value::Literal(words)),
-            )
-        }
-        Node::Parenthesized { expression } => one(number(Label::Expression, expression)),
-        Node::Unary { operator, operand } => {
-            two(
-                field(Label::Operator, Value::Unary(operator)),
-                number(Label::Operand, operand),
-            )
-        }
-        Node::Binary {
-            operator,
-            left,
-            right,
-        } => binary(Value::Binary(operator), left, right),
-        Node::ShortCircuit {
-            operator,
-            left,
-            right,
-        } => binary(Value::ShortCircuit(operator), left, right),
-        Node::Name { name } => one(number(Label::Name, name)),
-        Node::Call { name, arguments } => {
-            two(
-                number(Label::Name, name),
-                field(Label::Arguments, Value::Items(arguments)),
-            )
-        }
-        Node::Function {
-            name,
-            is_const,
-            must_use,
-            ty,
-            body,
-            parameters,
-        } => [
-            number(Label::Name, name),
-            flag(Label::Const, is_const),
-            flag(Label::MustUse, must_use),
-            maybe(Label::Type, ty),
-            field(Label::Parameters, Value::Pairs(parameters)),
-            number(Label::Body, body),
-        ],
     }
 }
 
-// The four words of a literal as one signed number, the lowest first.
-fn signed(words: [u16; 4]) -> i64 {
-    let [a, b, c, d] = words;
-    let [a0, a1] = a.to_le_bytes();
-    let [b0, b1] = b.to_le_bytes();
-    let [c0, c1] = c.to_le_bytes();
-    let [d0, d1] = d.to_le_bytes();
-    i64::from_le_bytes([a0, a1, b0, b1, c0, c1, d0, d1])
-}
+// The clauses of a switch.
+#[derive(Drop)]
+struct Cases<'a>(&'a Pairs<'a>);
 
-fn items_text(heap: Global, book: &Book, items: Items) -> Result<String, AllocError> {
-    let mut text = String::from_str(heap, "[")?;
-    for i in 0..items.count {
-        if let Some(entry) = book.item(items, i) {
-            if i > 0 {
-                text.push_str(" ")?;
-            }
-            text.push_str(entry.to_string(heap)?.as_str())?;
-        }
-    }
-    text.push_str("]")?;
-    Ok(text)
-}
-
-// A first part of a pair; 0 is the default where there is one.
-fn first_text(heap: Global, first: u16, cases: bool) -> Result<String, AllocError> {
-    match optional(first) {
-        None if cases => String::from_str(heap, "default"),
-        _ => first.to_string(heap),
-    }
-}
-
-fn pairs_text(heap: Global, book: &Book, pairs: Pairs, cases: bool) -> Result<String, AllocError> {
-    let mut text = String::from_str(heap, "[")?;
-    for i in 0..pairs.count {
-        if let Some((first, second)) = book.pair(pairs, i) {
-            if i > 0 {
-                text.push_str(" ")?;
-            }
-            text.push_str(first_text(heap, first, cases)?.as_str())?;
-            text.push_str(":")?;
-            text.push_str(second.to_string(heap)?.as_str())?;
-        }
-    }
-    text.push_str("]")?;
-    Ok(text)
-}
-
-fn assignment_text(heap: Global, operator: Option<BinaryOperator>) -> Result<String, AllocError> {
-    let mut text = match operator {
-        Some(operator) => String::from_str(heap, operator.symbol())?,
-        None => String::new(heap),
-    };
-    text.push_str("=")?;
-    Ok(text)
-}
-
-fn value_text(heap: Global, book: &Book, value: Value) -> Result<String, AllocError> {
-    match value {
-        Value::Absent | Value::Set => Ok(String::new(heap)),
-        Value::Number(n) => n.to_string(heap),
-        Value::Literal(words) => signed(words).to_string(heap),
-        Value::Unary(operator) => String::from_str(heap, operator.symbol()),
-        Value::Binary(operator) => String::from_str(heap, operator.symbol()),
-        Value::ShortCircuit(operator) => String::from_str(heap, operator.symbol()),
-        Value::Assignment(operator) => assignment_text(heap, operator),
-        Value::Kind(kind) => String::from_str(heap, kind.symbol()),
-        Value::Items(items) => items_text(heap, book, items),
-        Value::Pairs(pairs) => pairs_text(heap, book, pairs, false),
-        Value::Cases(pairs) => pairs_text(heap, book, pairs, true),
-    }
-}
-
-fn part_text(heap: Global, book: &Book, part: Part) -> Result<String, AllocError> {
-    let name = part.label.name();
-    match part.value {
-        Value::Absent => Ok(String::new(heap)),
-        Value::Set => format!(in heap; " {name}"),
-        value => {
-            let text = value_text(heap, book, value)?;
-            format!(in heap; " {name}={text}")
-        }
+impl Display for Cases<'_> {
+    fn fmt<W: Write>(&self, f: &mut Formatter<W>) -> Result {
+        bracketed(f, self.0.as_slice(), |[selector, body], f| write!(f, "{}:{body}", Selector(selector)))
     }
 }
 
 // The line of an entry: its number, its construct, and the parts that it has.
-pub fn line_of(heap: Global, book: &Book, entry: u16, node: Node) -> Result<String, AllocError> {
-    let construct = construct_of(node);
-    let mut line = format!(in heap; "{entry} {construct}")?;
-    let parts = parts_of(node);
-    for i in 0..parts.len() {
-        let text = part_text(heap, book, parts[i])?;
-        line.push_str(text.as_str())?;
+#[derive(Drop)]
+pub struct Line<'a> {
+    pub entry: u16,
+    pub node: Node<'a>,
+}
+
+impl Display for Line<'_> {
+    fn fmt<W: Write>(&self, f: &mut Formatter<W>) -> Result {
+        let entry = self.entry;
+        write!(f, "{entry} ")?;
+        match &self.node {
+            Node::Unit { children } => write!(f, "unit children={}", List(children)),
+            Node::Empty => f.write_str("empty"),
+            Node::Compound { statements } => write!(f, "compound statements={}", List(statements)),
+            Node::Assignment { operator, lhs, rhs } => {
+                write!(f, "assignment operator={} lhs={lhs} rhs={rhs}", Assigned(*operator))
+            }
+            Node::Increment { operand } => write!(f, "increment operand={operand}"),
+            Node::Decrement { operand } => write!(f, "decrement operand={operand}"),
+            Node::If { clauses, otherwise } => {
+                write!(f, "if clauses={}{}", Clauses(clauses), Part("else", *otherwise))
+            }
+            Node::Switch { expression, clauses } => {
+                write!(f, "switch expression={expression} clauses={}", Cases(clauses))
+            }
+            Node::Loop { body, continuing } => {
+                write!(f, "loop body={body}{}", Part("continuing", *continuing))
+            }
+            Node::For { initializer, condition, update, body } => write!(
+                f,
+                "for{}{}{} body={body}",
+                Part("initializer", *initializer),
+                Part("condition", *condition),
+                Part("update", *update),
+            ),
+            Node::While { condition, body } => write!(f, "while condition={condition} body={body}"),
+            Node::Break => f.write_str("break"),
+            Node::Continue => f.write_str("continue"),
+            Node::Return { expression } => write!(f, "return{}", Part("expression", *expression)),
+            Node::Discard => f.write_str("discard"),
+            Node::CallStatement { call } => write!(f, "call-statement call={call}"),
+            Node::ConstAssert { expression } => write!(f, "const-assert expression={expression}"),
+            Node::Declaration { kind, name, ty, initializer } => write!(
+                f,
+                "declaration kind={kind} name={name}{}{}",
+                Part("type", *ty),
+                Part("initializer", *initializer),
+            ),
+            Node::Continuing { body, break_if } => {
+                write!(f, "continuing body={body}{}", Part("break-if", *break_if))
+            }
+            Node::Literal { kind, words } => {
+                write!(f, "literal kind={kind} number={}", literal_number(*words))
+            }
+            Node::Parenthesized { expression } => write!(f, "parenthesized expression={expression}"),
+            Node::Unary { operator, operand } => write!(f, "unary operator={operator} operand={operand}"),
+            Node::Binary { operator, left, right } => {
+                write!(f, "binary operator={operator} left={left} right={right}")
+            }
+            Node::ShortCircuit { operator, left, right } => {
+                write!(f, "binary operator={operator} left={left} right={right}")
+            }
+            Node::Name { name } => write!(f, "name name={name}"),
+            Node::Call { name, arguments } => write!(f, "call name={name} arguments={}", List(arguments)),
+            Node::Function { name, is_const, must_use, ty, body, parameters } => write!(
+                f,
+                "function name={name}{}{}{} parameters={} body={body}",
+                Flag("const", *is_const),
+                Flag("must-use", *must_use),
+                Part("type", *ty),
+                Clauses(parameters),
+            ),
+        }
     }
-    Ok(line)
 }

@@ -7,7 +7,7 @@ ghost use Rattle.scalar.specs.Laws.{both_sound};
 use crate::values::Scalars;
 use arithmetic::operate;
 use host::{HostFault, Operators, Stage, StepFault, Values, literal_number};
-use scalar_value::number::{within_type, wrap_into};
+use scalar_value::number::within_type;
 use scalar_value::{Scalar, ScalarType};
 use syntax::{BinaryOperator, UnaryOperator};
 
@@ -15,8 +15,8 @@ fn negate(v: Scalar) -> Result<Scalar, HostFault>
     ensures { result ≡ negation v }
 {
     match v {
-        Scalar::AbstractInt(z) => Ok(wrap_into(ScalarType::AbstractInt, -i128::from(z))),
-        Scalar::I32(z) => Ok(wrap_into(ScalarType::I32, -i128::from(z))),
+        Scalar::AbstractInt(z) => Ok(Scalar::AbstractInt(z.wrapping_neg())),
+        Scalar::I32(z) => Ok(Scalar::I32(z.wrapping_neg())),
         _ => Err(HostFault::Unary),
     }
 }
@@ -35,9 +35,9 @@ fn turn_bits(v: Scalar) -> Result<Scalar, HostFault>
 {
     match v {
         Scalar::Bool(_) => Err(HostFault::Unary),
-        Scalar::AbstractInt(z) => Ok(wrap_into(ScalarType::AbstractInt, -1 - i128::from(z))),
-        Scalar::I32(z) => Ok(wrap_into(ScalarType::I32, -1 - i128::from(z))),
-        Scalar::U32(n) => Ok(wrap_into(ScalarType::U32, -1 - i128::from(n))),
+        Scalar::AbstractInt(z) => Ok(Scalar::AbstractInt(!z)),
+        Scalar::I32(z) => Ok(Scalar::I32(!z)),
+        Scalar::U32(n) => Ok(Scalar::U32(!n)),
     }
 }
 
@@ -52,12 +52,12 @@ fn take_type(v: Scalar, other: Scalar) -> Option<Scalar>
 }
 
 // A step of an I32 or a U32, by 1 or -1, which wraps.
-fn step(by: i8, v: Scalar) -> Result<Scalar, StepFault>
+fn step(by: i32, v: Scalar) -> Result<Scalar, StepFault>
     ensures { result ≡ stepped by v }
 {
     match v {
-        Scalar::I32(z) => Ok(wrap_into(ScalarType::I32, i128::from(z) + i128::from(by))),
-        Scalar::U32(n) => Ok(wrap_into(ScalarType::U32, i128::from(n) + i128::from(by))),
+        Scalar::I32(z) => Ok(Scalar::I32(z.wrapping_add(by))),
+        Scalar::U32(n) => Ok(Scalar::U32(n.wrapping_add_signed(by))),
         _ => Err(StepFault::WrongType),
     }
 }

@@ -6,8 +6,8 @@ use Rattle.syntax.specs.declared.BinaryOperator.{BinaryOperator}
 use Rattle.syntax.specs.declared.DeclarationKind.{DeclarationKind}
 use Rattle.syntax.specs.declared.DeclarationKind.TheVariants as K
 use Rattle.host.specs.declared.HostFault.{HostFault}
-use Rattle.host.specs.declared.Stepped.{Stepped}
-use Rattle.host.specs.declared.Stepped.TheVariants.{To, Overflow, WrongType}
+use Rattle.host.specs.declared.StepFault.{StepFault}
+use Rattle.host.specs.declared.StepFault.TheVariants.{Overflow, WrongType}
 use Rattle.shape.specs.declared.Child.TheVariants as Kind
 use Rattle.names.specs.Rules.{assign, duplicate, write}
 use Rattle.names.specs.State.{State}
@@ -66,10 +66,10 @@ module _ {V : Type 0} (env : Env V) where
           answered_keeps env Q G (env.operators.binary s.stage op old v) s (λ x t. stored (write env.values place x t.names) t)
           (λ x. stored_keeps (write env.values place x s.names) s)
 
-      pub stepped_keeps : (overflow wrong : Cause) → Allowed env.words (because overflow) → Allowed env.words (because wrong) → (place : ℕ) (r : Stepped V) (s : Store V) → Keep env Q G (stepped env overflow wrong place r s)
-      stepped_keeps overflow wrong a b place (To x) s = stored_keeps (write env.values place x s.names) s
-      stepped_keeps overflow wrong a b place Overflow s = a
-      stepped_keeps overflow wrong a b place WrongType s = b
+      pub stepped_keeps : (overflow wrong : Cause) → Allowed env.words (because overflow) → Allowed env.words (because wrong) → (place : ℕ) (r : Result V StepFault) (s : Store V) → Keep env Q G (stepped env overflow wrong place r s)
+      stepped_keeps overflow wrong a b place (Ok x) s = stored_keeps (write env.values place x s.names) s
+      stepped_keeps overflow wrong a b place (Err Overflow) s = a
+      stepped_keeps overflow wrong a b place (Err WrongType) s = b
 
       declared_keeps : (kind : DeclarationKind) (name : ℕ) (cause : Cause) → Allowed env.words (because cause) → (o : Option V) (s : Store V) → Keep env Q G (declared env kind name cause o s)
       declared_keeps kind name cause a None s = a

@@ -9,8 +9,8 @@ use Rattle.syntax.specs.declared.ShortCircuit.TheVariants.{And, Or}
 use Rattle.host.specs.declared.HostFault.{HostFault}
 use Rattle.host.specs.declared.Stage.{Stage}
 use Rattle.host.specs.declared.Stage.TheVariants as Stages
-use Rattle.host.specs.declared.Stepped.{Stepped}
-use Rattle.host.specs.declared.Stepped.TheVariants.{To, Overflow, WrongType}
+use Rattle.host.specs.declared.StepFault.{StepFault}
+use Rattle.host.specs.declared.StepFault.TheVariants.{Overflow, WrongType}
 use Rattle.names.proofs.Laws.{gives_back}
 use Rattle.names.specs.Laws.{Grown, Same}
 use Rattle.names.specs.Rules.{assign, bind, bound, duplicate, lookup, write}
@@ -419,10 +419,10 @@ module _ {V : Type 0} (env : Env V) where
         answered_keeps plain (env.operators.binary s.stage op old v) s _ h
         (λ w. stored_keeps (write env.values place w s.names) s h (write_same env.values place s.names w))
 
-    stepped_keeps : (overflow wrong : Cause) (place : ℕ) (x : Stepped V) (s : Store V) → At s₀ s → Keeps keeping g (stepped env overflow wrong place x s)
-    stepped_keeps overflow wrong place (To w) s h = stored_keeps (write env.values place w s.names) s h (write_same env.values place s.names w)
-    stepped_keeps overflow wrong place Overflow s h = stops plain _ s h
-    stepped_keeps overflow wrong place WrongType s h = stops plain _ s h
+    stepped_keeps : (overflow wrong : Cause) (place : ℕ) (x : Result V StepFault) (s : Store V) → At s₀ s → Keeps keeping g (stepped env overflow wrong place x s)
+    stepped_keeps overflow wrong place (Ok w) s h = stored_keeps (write env.values place w s.names) s h (write_same env.values place s.names w)
+    stepped_keeps overflow wrong place (Err Overflow) s h = stops plain _ s h
+    stepped_keeps overflow wrong place (Err WrongType) s h = stops plain _ s h
 
     abbrev Tried : Store V → (Flow V → Store V → Type 0) → Type 0
     Tried s X = Unit {0} × ((n : Refusal) (t : Store V) → Kept s t → g.Fails n t) × ((o : Flow V) (t : Store V) → At s t → X o t)

@@ -7,8 +7,8 @@ use Rattle.syntax.specs.declared.DeclarationKind.TheVariants as K
 use Rattle.host.specs.declared.HostFault.{HostFault}
 use Rattle.host.specs.declared.Stage.{Stage}
 use Rattle.host.specs.declared.Stage.TheVariants as Stages
-use Rattle.host.specs.declared.Stepped.{Stepped}
-use Rattle.host.specs.declared.Stepped.TheVariants.{To, Overflow, WrongType}
+use Rattle.host.specs.declared.StepFault.{StepFault}
+use Rattle.host.specs.declared.StepFault.TheVariants.{Overflow, WrongType}
 use Rattle.names.specs.Rules.{assign, bind, duplicate, write}
 use Rattle.names.specs.State.{State}
 use Rattle.names.specs.declared.error.NameFault.{NameFault}
@@ -110,10 +110,10 @@ module _ {V : Type 0} (env : Env V) where
   assigned (Some op) place old v s =
       answered env (env.operators.binary s.stage op (read_first old) v) s (λ w s'. stored (write env.values place w s'.names) s')
 
-  abbrev pub stepped : Cause → Cause → ℕ → Stepped V → Store V → Act (shape V) (Flow V)
-  stepped overflow wrong place (To w) s = stored (write env.values place w s.names) s
-  stepped overflow wrong place Overflow s = refuse overflow s
-  stepped overflow wrong place WrongType s = refuse wrong s
+  abbrev pub stepped : Cause → Cause → ℕ → Result V StepFault → Store V → Act (shape V) (Flow V)
+  stepped overflow wrong place (Ok w) s = stored (write env.values place w s.names) s
+  stepped overflow wrong place (Err Overflow) s = refuse overflow s
+  stepped overflow wrong place (Err WrongType) s = refuse wrong s
 
   -- ## Branches
 

@@ -1,11 +1,12 @@
 // Why a run is refused.
 ghost use Rattle.std.specs.Prelude.{◌≡◌};
+ghost use Rattle.rules.specs.declared.error.Cause.TheVariants.{Name, Host};
 ghost use Rattle.rules.specs.Causes.{cause_number};
 
 use host::HostFault;
 use names::error::NameFault;
 
-#[derive(Clone, Copy)]
+#[derive(Clone, Copy, PartialEq, Eq, Debug)]
 pub enum Cause {
     // by the caller's hand
     ShortTables,
@@ -44,12 +45,12 @@ pub enum Cause {
     TooDeep,
 }
 
-impl Cause {
-    // The number under which the refusal is printed.
-    pub fn number(self) -> u16
-        ensures { result ≡ cause_number self }
-    {
-        match self {
+// The number under which the refusal is printed.
+impl From<Cause> for u16 {
+    ghost from_gives = { λ cause n. n ≡ cause_number cause };
+
+    fn from(cause: Cause) -> u16 {
+        match cause {
             Cause::ShortTables => 5,
             Cause::NoStatement => 6,
             Cause::TooManyArguments => 7,
@@ -80,7 +81,25 @@ impl Cause {
             Cause::TooDeep => 51,
             Cause::NotConstructible => 53,
             Cause::Name(fault) => fault.number(),
-            Cause::Host(fault) => fault.number(),
+            Cause::Host(fault) => u16::from(fault),
         }
+    }
+}
+
+// A refusal about names is the cause.
+impl From<NameFault> for Cause {
+    ghost from_gives = { λ refusal cause. cause ≡ Name refusal };
+
+    fn from(refusal: NameFault) -> Cause {
+        Cause::Name(refusal)
+    }
+}
+
+// A fault of the host is the cause.
+impl From<HostFault> for Cause {
+    ghost from_gives = { λ refusal cause. cause ≡ Host refusal };
+
+    fn from(refusal: HostFault) -> Cause {
+        Cause::Host(refusal)
     }
 }

@@ -8,8 +8,8 @@ use Rattle.syntax.specs.declared.BinaryOperator.{BinaryOperator}
 use Rattle.host.specs.declared.Stage.{Stage}
 use Rattle.host.specs.declared.HostFault.{HostFault}
 use Rattle.host.specs.declared.HostFault.TheVariants.{Unary, Binary, Literal}
-use Rattle.host.specs.declared.Stepped.{Stepped}
-use Rattle.host.specs.declared.Stepped.TheVariants.{To, WrongType}
+use Rattle.host.specs.declared.StepFault.{StepFault}
+use Rattle.host.specs.declared.StepFault.TheVariants.{WrongType}
 use Rattle.host.specs.Literals.{literal_number}
 use Rattle.host.specs.Meaning.{OperatorMeaning}
 use Rattle.scalar_value.specs.declared.ScalarType.{ScalarType}
@@ -79,11 +79,11 @@ abbrev pub same : Scalar → Scalar → Result Bool HostFault
 same v w = Ok (same_type v w && equals (number_of v) (number_of w))
 
 -- A step of an I32 or a U32, which wraps.
-abbrev pub stepped : ℤ → Scalar → Stepped Scalar
-stepped by (BoolOf b) = WrongType
-stepped by (AbstractInt z) = WrongType
-stepped by (I32 z) = To (wrapped I32Type (z +ℤ by))
-stepped by (U32 n) = To (wrapped U32Type (pos n +ℤ by))
+abbrev pub stepped : ℤ → Scalar → Result Scalar StepFault
+stepped by (BoolOf b) = Err WrongType
+stepped by (AbstractInt z) = Err WrongType
+stepped by (I32 z) = Ok (wrapped I32Type (z +ℤ by))
+stepped by (U32 n) = Ok (wrapped U32Type (pos n +ℤ by))
 
 abbrev pub operators : OperatorMeaning Scalar
 operators = record {

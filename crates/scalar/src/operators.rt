@@ -5,9 +5,9 @@ ghost use Rattle.std.proofs.Common.{rules};
 ghost use Rattle.scalar.specs.Laws.{both_sound};
 
 use crate::values::Scalars;
-use arithmetic::{are_equal, have_same_type, operate};
-use host::{HostFault, Operators, Stage, Stepped, Values, literal_number};
-use scalar_value::number::{within_type, wrap_into};
+use arithmetic::operate;
+use host::{HostFault, Operators, Stage, StepFault, Values, literal_number};
+use scalar_value::number::within_type;
 use scalar_value::{Scalar, ScalarType};
 use syntax::{BinaryOperator, UnaryOperator};
 
@@ -15,8 +15,8 @@ fn negate(v: Scalar) -> Result<Scalar, HostFault>
     ensures { result ≡ negation v }
 {
     match v {
-        Scalar::AbstractInt(z) => Ok(wrap_into(ScalarType::AbstractInt, -(z as i128))),
-        Scalar::I32(z) => Ok(wrap_into(ScalarType::I32, -(z as i128))),
+        Scalar::AbstractInt(z) => Ok(Scalar::AbstractInt(z.wrapping_neg())),
+        Scalar::I32(z) => Ok(Scalar::I32(z.wrapping_neg())),
         _ => Err(HostFault::Unary),
     }
 }
@@ -35,9 +35,9 @@ fn turn_bits(v: Scalar) -> Result<Scalar, HostFault>
 {
     match v {
         Scalar::Bool(_) => Err(HostFault::Unary),
-        Scalar::AbstractInt(z) => Ok(wrap_into(ScalarType::AbstractInt, -1 - z as i128)),
-        Scalar::I32(z) => Ok(wrap_into(ScalarType::I32, -1 - z as i128)),
-        Scalar::U32(n) => Ok(wrap_into(ScalarType::U32, -1 - n as i128)),
+        Scalar::AbstractInt(z) => Ok(Scalar::AbstractInt(!z)),
+        Scalar::I32(z) => Ok(Scalar::I32(!z)),
+        Scalar::U32(n) => Ok(Scalar::U32(!n)),
     }
 }
 
@@ -46,19 +46,19 @@ fn take_type(v: Scalar, other: Scalar) -> Option<Scalar>
     ensures { result ≡ beside v other }
 {
     match v {
-        Scalar::AbstractInt(_) => Scalars.convert(v, other.scalar_type().number()),
+        Scalar::AbstractInt(_) => Scalars.convert(v, u16::from(other.scalar_type())),
         _ => Some(v),
     }
 }
 
 // A step of an I32 or a U32, by 1 or -1, which wraps.
-fn step(by: i8, v: Scalar) -> Stepped<Scalar>
+fn step(by: i32, v: Scalar) -> Result<Scalar, StepFault>
     ensures { result ≡ stepped by v }
 {
     match v {
-        Scalar::I32(z) => Stepped::To(wrap_into(ScalarType::I32, z as i128 + by as i128)),
-        Scalar::U32(n) => Stepped::To(wrap_into(ScalarType::U32, n as i128 + by as i128)),
-        _ => Stepped::WrongType,
+        Scalar::I32(z) => Ok(Scalar::I32(z.wrapping_add(by))),
+        Scalar::U32(n) => Ok(Scalar::U32(n.wrapping_add_signed(by))),
+        _ => Err(StepFault::WrongType),
     }
 }
 
@@ -76,13 +76,8 @@ impl Operators for Scalars {
         } };
 
     fn literal(&self, kind: u16, words: [u16; 4]) -> Result<Scalar, HostFault> {
-        let Some(t) = ScalarType::from_number(kind) else {
-            return Err(HostFault::Literal);
-        };
-        match within_type(t, literal_number(words) as i128) {
-            Some(v) => Ok(v),
-            None => Err(HostFault::Literal),
-        }
+        let t = ScalarType::try_from(kind).map_err(|_| HostFault::Literal)?;
+        within_type(t, i128::from(literal_number(words))).ok_or(HostFault::Literal)
     }
 
     fn unary(&self, _stage: Stage, op: UnaryOperator, v: Scalar) -> Result<Scalar, HostFault> {
@@ -100,21 +95,20 @@ impl Operators for Scalars {
         a: Scalar,
         b: Scalar,
     ) -> Result<Scalar, HostFault> {
-        match (take_type(a, b), take_type(b, a)) {
-            (Some(v), Some(w)) => operate(stage, op, v, w),
-            _ => Err(HostFault::Binary),
-        }
+        let v = take_type(a, b).ok_or(HostFault::Binary)?;
+        let w = take_type(b, a).ok_or(HostFault::Binary)?;
+        operate(stage, op, v, w)
     }
 
     fn same(&self, a: Scalar, b: Scalar) -> Result<bool, HostFault> {
-        Ok(have_same_type(a, b) && are_equal(a.number(), b.number()))
+        Ok(a == b)
     }
 
-    fn up(&self, v: Scalar) -> Stepped<Scalar> {
+    fn up(&self, v: Scalar) -> Result<Scalar, StepFault> {
         step(1, v)
     }
 
-    fn down(&self, v: Scalar) -> Stepped<Scalar> {
+    fn down(&self, v: Scalar) -> Result<Scalar, StepFault> {
         step(-1, v)
     }
 }

@@ -18,7 +18,7 @@ impl Values for Scalars {
     ghost lawful = { Prim.search rules };
 
     fn type_of(&self, v: Scalar) -> u16 {
-        v.scalar_type().number()
+        u16::from(v.scalar_type())
     }
 
     fn truth(&self, v: Scalar) -> Option<bool> {
@@ -29,26 +29,27 @@ impl Values for Scalars {
     }
 
     fn convert(&self, v: Scalar, t: u16) -> Option<Scalar> {
-        if t == v.scalar_type().number() {
-            return Some(v);
-        }
-        match (v, t) {
-            (Scalar::AbstractInt(z), 2) => within_type(ScalarType::I32, z as i128),
-            (Scalar::AbstractInt(z), 3) => within_type(ScalarType::U32, z as i128),
-            _ => None,
+        match (v, ScalarType::try_from(t).ok()?) {
+            (Scalar::AbstractInt(z), of @ (ScalarType::I32 | ScalarType::U32)) => {
+                within_type(of, i128::from(z))
+            }
+            (v, of) => (v.scalar_type() == of).then_some(v),
         }
     }
 
     fn zero(&self, t: u16) -> Option<Scalar> {
-        match t {
-            0 => Some(Scalar::Bool(false)),
-            2 => Some(Scalar::I32(0)),
-            3 => Some(Scalar::U32(0)),
-            _ => None,
+        match ScalarType::try_from(t).ok()? {
+            ScalarType::Bool => Some(Scalar::Bool(false)),
+            ScalarType::AbstractInt => None,
+            ScalarType::I32 => Some(Scalar::I32(0)),
+            ScalarType::U32 => Some(Scalar::U32(0)),
         }
     }
 
     fn concretise(&self, t: u16) -> u16 {
-        if t == 1 { 2 } else { t }
+        match ScalarType::try_from(t) {
+            Ok(ScalarType::AbstractInt) => u16::from(ScalarType::I32),
+            _ => t,
+        }
     }
 }

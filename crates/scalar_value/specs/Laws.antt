@@ -35,7 +35,7 @@ scalar_of_number (U32 n) = refl
 letters_differ : (s t : ScalarType) → letter s ≡ letter t → s ≡ t
 letters_differ s t e = grind arith
 
-inside-fits : (t : ScalarType) (z : ℤ) → inside t z ≡ true → SFits w64 z
+pub inside-fits : (t : ScalarType) (z : ℤ) → inside t z ≡ true → SFits w64 z
 inside-fits t z h = grind (arith, ints, nat_tests)
 
 valid_fits : (v : Scalar) → Valid v → SFits w64 (number_of v)

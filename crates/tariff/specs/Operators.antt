@@ -8,8 +8,8 @@ use Rattle.syntax.specs.declared.BinaryOperator.TheVariants.{Addition, Subtracti
 use Rattle.host.specs.declared.Stage.{Stage}
 use Rattle.host.specs.declared.HostFault.{HostFault}
 use Rattle.host.specs.declared.HostFault.TheVariants.{Unary, Binary, AddOverflow, SubOverflow, MulOverflow, DivByZero, RemZeroDiv, Literal}
-use Rattle.host.specs.declared.Stepped.{Stepped}
-use Rattle.host.specs.declared.Stepped.TheVariants.{To, Overflow, WrongType}
+use Rattle.host.specs.declared.StepFault.{StepFault}
+use Rattle.host.specs.declared.StepFault.TheVariants.{Overflow, WrongType}
 use Rattle.host.specs.Literals.{literal_number}
 use Rattle.host.specs.Meaning.{OperatorMeaning}
 use Rattle.tariff_value.specs.declared.TariffType.{TariffType}
@@ -136,17 +136,23 @@ abbrev pub same : TariffValue → TariffValue → Result Bool HostFault
 same v w = Ok (same_type (type_of v) (type_of w) && number_of v == number_of w)
 
 -- Only a Count is stepped.
-abbrev pub up : TariffValue → Stepped TariffValue
-up (Flag b) = WrongType
-up (Count n) = cond (nat_lt n (highest CountType)) (To (Count (n + 1))) Overflow
-up (Gram n) = WrongType
-up (Cent n) = WrongType
+abbrev pub counted : TariffValue → Result ℕ StepFault
+counted (Flag b) = Err WrongType
+counted (Count n) = Ok n
+counted (Gram n) = Err WrongType
+counted (Cent n) = Err WrongType
 
-abbrev pub down : TariffValue → Stepped TariffValue
-down (Flag b) = WrongType
-down (Count n) = cond (n == 0) Overflow (To (Count (n - 1)))
-down (Gram n) = WrongType
-down (Cent n) = WrongType
+abbrev pub up : TariffValue → Result TariffValue StepFault
+up (Flag b) = Err WrongType
+up (Count n) = cond (nat_lt n (highest CountType)) (Ok (Count (n + 1))) (Err Overflow)
+up (Gram n) = Err WrongType
+up (Cent n) = Err WrongType
+
+abbrev pub down : TariffValue → Result TariffValue StepFault
+down (Flag b) = Err WrongType
+down (Count n) = cond (n == 0) (Err Overflow) (Ok (Count (n - 1)))
+down (Gram n) = Err WrongType
+down (Cent n) = Err WrongType
 
 abbrev pub operators : OperatorMeaning TariffValue
 operators = record {

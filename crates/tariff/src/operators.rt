@@ -1,10 +1,13 @@
 // The operator part of the tariff host.
-ghost use Rattle.std.specs.Prelude.{◌≡◌, ◌&&◌, ◌||◌};
-ghost use Rattle.tariff.specs.Operators.{logical_negation, is_count, is_amount, same_type, sum_type, product_type, quotient_type, sum, difference, product, quotient, remainder, flags, answer, operation, operators};
+ghost use Rattle.std.specs.Prelude.{◌≡◌, ◌&&◌, ok_or};
+ghost use Rattle.std.specs.Option.{option_map};
+ghost use Rattle.tariff_value.specs.declared.TariffValue.TheVariants.{Flag};
+ghost use Rattle.tariff_value.specs.Types.{value};
+ghost use Rattle.tariff.specs.Operators.{logical_negation, is_amount, same_type, sum_type, product_type, quotient_type, flags, answer, operation, counted, operators};
 ghost use Rattle.std.proofs.Common.{rules};
 
 use crate::values::Tariff;
-use host::{HostFault, Operators, Stage, Stepped, literal_number};
+use host::{HostFault, Operators, Stage, StepFault, literal_number};
 use syntax::{BinaryOperator, UnaryOperator};
 use tariff_value::number::{of_type, within_type};
 use tariff_value::{TariffType, TariffValue};
@@ -18,124 +21,59 @@ fn negate_flag(v: TariffValue) -> Result<TariffValue, HostFault>
     }
 }
 
-fn have_same_type(s: TariffType, t: TariffType) -> bool
-    ensures { result ≡ same_type s t }
-{
-    s.number() == t.number()
-}
-
-fn counts(t: TariffType) -> bool
-    ensures { result ≡ is_count t }
-{
-    t.number() == 4
-}
-
-fn measures(t: TariffType) -> bool
-    ensures { result ≡ is_amount t }
-{
-    t.number() != 0
-}
-
 // Whether the types are one, of an amount.
 fn comparable(s: TariffType, t: TariffType) -> bool
     ensures { result ≡ (is_amount s && same_type s t) }
 {
-    measures(s) && have_same_type(s, t)
+    s != TariffType::Flag && s == t
 }
 
 // The type of a sum, a difference or a remainder.
 fn type_of_sum(s: TariffType, t: TariffType) -> Option<TariffType>
     ensures { result ≡ sum_type s t }
 {
-    if comparable(s, t) { Some(s) } else { None }
+    comparable(s, t).then_some(s)
 }
 
 fn type_of_product(s: TariffType, t: TariffType) -> Option<TariffType>
     ensures { result ≡ product_type s t }
 {
-    if counts(t) && measures(s) {
-        Some(s)
-    } else if counts(s) && measures(t) {
-        Some(t)
-    } else {
-        None
+    match (s, t) {
+        (TariffType::Flag, _) | (_, TariffType::Flag) => None,
+        (_, TariffType::Count) => Some(s),
+        (TariffType::Count, _) => Some(t),
+        _ => None,
     }
 }
 
 fn type_of_quotient(s: TariffType, t: TariffType) -> Option<TariffType>
     ensures { result ≡ quotient_type s t }
 {
-    if counts(t) && measures(s) {
-        Some(s)
-    } else if comparable(s, t) {
-        Some(TariffType::Count)
-    } else {
-        None
+    match (s, t) {
+        (TariffType::Flag, _) => None,
+        (_, TariffType::Count) => Some(s),
+        _ => (s == t).then_some(TariffType::Count),
     }
 }
 
-fn add(t: TariffType, m: u32, n: u32) -> Result<TariffValue, HostFault>
-    ensures { result ≡ sum t m n }
+// A value of the type with the number, and the fault where there is none.
+fn typed(t: TariffType, n: Option<u32>, fault: HostFault) -> Result<TariffValue, HostFault>
+    ensures { result ≡ ok_or (option_map (value t) n) fault }
 {
-    match within_type(t, u64::from(m) + u64::from(n)) {
-        Some(v) => Ok(v),
-        None => Err(HostFault::AddOverflow),
-    }
+    n.map(|n| of_type(t, n)).ok_or(fault)
 }
 
-fn subtract(t: TariffType, m: u32, n: u32) -> Result<TariffValue, HostFault>
-    ensures { result ≡ difference t m n }
-{
-    if n <= m {
-        Ok(of_type(t, m - n))
-    } else {
-        Err(HostFault::SubOverflow)
-    }
-}
-
-fn multiply(t: TariffType, m: u32, n: u32) -> Result<TariffValue, HostFault>
-    ensures { result ≡ product t m n }
-{
-    match within_type(t, u64::from(m) * u64::from(n)) {
-        Some(v) => Ok(v),
-        None => Err(HostFault::MulOverflow),
-    }
-}
-
-fn divide(t: TariffType, m: u32, n: u32) -> Result<TariffValue, HostFault>
-    ensures { result ≡ quotient t m n }
-{
-    if n == 0 {
-        Err(HostFault::DivByZero)
-    } else {
-        Ok(of_type(t, m / n))
-    }
-}
-
-fn rest_of(t: TariffType, m: u32, n: u32) -> Result<TariffValue, HostFault>
-    ensures { result ≡ remainder t m n }
-{
-    if n == 0 {
-        Err(HostFault::RemZeroDiv)
-    } else {
-        Ok(of_type(t, m % n))
-    }
-}
-
-fn both(v: TariffValue, w: TariffValue) -> Result<TariffValue, HostFault>
-    ensures { result ≡ flags ◌&&◌ v w }
+// An operator on the truths of two Flags.
+fn on_flags<F: Fn(bool, bool) -> bool>(
+    v: TariffValue,
+    w: TariffValue,
+    f: F,
+) -> Result<TariffValue, HostFault>
+    requires { F.IsAlwaysCallable f }
+    ensures { (r : _) × ((a b : _) → v ≡ Flag a → w ≡ Flag b → F.post f a b r) × (result ≡ flags (λ a b. r) v w) }
 {
     match (v, w) {
-        (TariffValue::Flag(a), TariffValue::Flag(b)) => Ok(TariffValue::Flag(a && b)),
-        _ => Err(HostFault::Binary),
-    }
-}
-
-fn either(v: TariffValue, w: TariffValue) -> Result<TariffValue, HostFault>
-    ensures { result ≡ flags ◌||◌ v w }
-{
-    match (v, w) {
-        (TariffValue::Flag(a), TariffValue::Flag(b)) => Ok(TariffValue::Flag(a || b)),
+        (TariffValue::Flag(a), TariffValue::Flag(b)) => Ok(TariffValue::Flag(f(a, b))),
         _ => Err(HostFault::Binary),
     }
 }
@@ -144,11 +82,9 @@ fn either(v: TariffValue, w: TariffValue) -> Result<TariffValue, HostFault>
 fn answer_if(exists: bool, b: bool) -> Result<TariffValue, HostFault>
     ensures { result ≡ answer exists b }
 {
-    if exists {
-        Ok(TariffValue::Flag(b))
-    } else {
-        Err(HostFault::Binary)
-    }
+    exists
+        .then_some(TariffValue::Flag(b))
+        .ok_or(HostFault::Binary)
 }
 
 // An operator on two values.
@@ -156,37 +92,35 @@ fn operate(op: BinaryOperator, v: TariffValue, w: TariffValue) -> Result<TariffV
     ensures { result ≡ operation op v w }
 {
     let (s, t) = (v.tariff_type(), w.tariff_type());
-    let (m, n) = (v.number(), w.number());
+    let (m, n) = (u32::from(v), u32::from(w));
+    let sum = type_of_sum(s, t).ok_or(HostFault::Binary);
+    let product = type_of_product(s, t).ok_or(HostFault::Binary);
+    let quotient = type_of_quotient(s, t).ok_or(HostFault::Binary);
     match op {
-        BinaryOperator::Addition => match type_of_sum(s, t) {
-            Some(of) => add(of, m, n),
-            None => Err(HostFault::Binary),
-        },
-        BinaryOperator::Subtraction => match type_of_sum(s, t) {
-            Some(of) => subtract(of, m, n),
-            None => Err(HostFault::Binary),
-        },
-        BinaryOperator::Multiplication => match type_of_product(s, t) {
-            Some(of) => multiply(of, m, n),
-            None => Err(HostFault::Binary),
-        },
-        BinaryOperator::Division => match type_of_quotient(s, t) {
-            Some(of) => divide(of, m, n),
-            None => Err(HostFault::Binary),
-        },
-        BinaryOperator::Remainder => match type_of_sum(s, t) {
-            Some(of) => rest_of(of, m, n),
-            None => Err(HostFault::Binary),
-        },
-        BinaryOperator::BinaryAnd => both(v, w),
-        BinaryOperator::BinaryOr => either(v, w),
+        BinaryOperator::Addition => typed(sum?, m.checked_add(n), HostFault::AddOverflow),
+        BinaryOperator::Subtraction => typed(sum?, m.checked_sub(n), HostFault::SubOverflow),
+        BinaryOperator::Multiplication => typed(product?, m.checked_mul(n), HostFault::MulOverflow),
+        BinaryOperator::Division => typed(quotient?, m.checked_div(n), HostFault::DivByZero),
+        BinaryOperator::Remainder => typed(sum?, m.checked_rem(n), HostFault::RemZeroDiv),
+        BinaryOperator::BinaryAnd => on_flags(v, w, |a, b| a && b),
+        BinaryOperator::BinaryOr => on_flags(v, w, |a, b| a || b),
         BinaryOperator::BinaryXor => Err(HostFault::Binary),
-        BinaryOperator::Equality => answer_if(have_same_type(s, t), m == n),
-        BinaryOperator::Inequality => answer_if(have_same_type(s, t), m != n),
+        BinaryOperator::Equality => answer_if(s == t, m == n),
+        BinaryOperator::Inequality => answer_if(s == t, m != n),
         BinaryOperator::LessThan => answer_if(comparable(s, t), m < n),
         BinaryOperator::LessThanEqual => answer_if(comparable(s, t), m <= n),
         BinaryOperator::GreaterThan => answer_if(comparable(s, t), m > n),
         BinaryOperator::GreaterThanEqual => answer_if(comparable(s, t), m >= n),
+    }
+}
+
+// The number of a Count, which alone is stepped.
+fn count_in(v: TariffValue) -> Result<u32, StepFault>
+    ensures { result ≡ counted v }
+{
+    match v {
+        TariffValue::Count(n) => Ok(n),
+        _ => Err(StepFault::WrongType),
     }
 }
 
@@ -196,14 +130,9 @@ impl Operators for Tariff {
     ghost keeps = { Prim.search rules };
 
     fn literal(&self, kind: u16, words: [u16; 4]) -> Result<TariffValue, HostFault> {
-        let n = literal_number(words);
-        match TariffType::from_number(kind) {
-            Some(t) if n >= 0 => match within_type(t, n as u64) {
-                Some(v) => Ok(v),
-                None => Err(HostFault::Literal),
-            },
-            _ => Err(HostFault::Literal),
-        }
+        let t = TariffType::try_from(kind).map_err(|_| HostFault::Literal)?;
+        let n = u64::try_from(literal_number(words)).map_err(|_| HostFault::Literal)?;
+        within_type(t, n).ok_or(HostFault::Literal)
     }
 
     fn unary(
@@ -229,22 +158,16 @@ impl Operators for Tariff {
     }
 
     fn same(&self, a: TariffValue, b: TariffValue) -> Result<bool, HostFault> {
-        Ok(have_same_type(a.tariff_type(), b.tariff_type()) && a.number() == b.number())
+        Ok(a == b)
     }
 
-    fn up(&self, v: TariffValue) -> Stepped<TariffValue> {
-        match v {
-            TariffValue::Count(n) if n < 4294967295 => Stepped::To(TariffValue::Count(n + 1)),
-            TariffValue::Count(_) => Stepped::Overflow,
-            _ => Stepped::WrongType,
-        }
+    fn up(&self, v: TariffValue) -> Result<TariffValue, StepFault> {
+        let next = count_in(v)?.checked_add(1);
+        next.map(TariffValue::Count).ok_or(StepFault::Overflow)
     }
 
-    fn down(&self, v: TariffValue) -> Stepped<TariffValue> {
-        match v {
-            TariffValue::Count(0) => Stepped::Overflow,
-            TariffValue::Count(n) => Stepped::To(TariffValue::Count(n - 1)),
-            _ => Stepped::WrongType,
-        }
+    fn down(&self, v: TariffValue) -> Result<TariffValue, StepFault> {
+        let next = count_in(v)?.checked_sub(1);
+        next.map(TariffValue::Count).ok_or(StepFault::Overflow)
     }
 }

@@ -18,7 +18,7 @@ impl Values for Tariff {
     ghost lawful = { Prim.search rules };
 
     fn type_of(&self, v: TariffValue) -> u16 {
-        v.tariff_type().number()
+        u16::from(v.tariff_type())
     }
 
     fn truth(&self, v: TariffValue) -> Option<bool> {
@@ -29,18 +29,11 @@ impl Values for Tariff {
     }
 
     fn convert(&self, v: TariffValue, t: u16) -> Option<TariffValue> {
-        if t == v.tariff_type().number() {
-            Some(v)
-        } else {
-            None
-        }
+        (t == u16::from(v.tariff_type())).then_some(v)
     }
 
     fn zero(&self, t: u16) -> Option<TariffValue> {
-        match TariffType::from_number(t) {
-            Some(ty) => Some(of_type(ty, 0)),
-            None => None,
-        }
+        Some(of_type(TariffType::try_from(t).ok()?, 0))
     }
 
     fn concretise(&self, t: u16) -> u16 {

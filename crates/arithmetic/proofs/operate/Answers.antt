@@ -1,0 +1,7 @@
+use Rattle.std.proofs.Common.{arith}
+use Rattle.std.proofs.lemmas.Grind.{common_steps}
+use Rattle.std.proofs.lemmas.Int.{to_z-of_z}
+use Rattle.arithmetic.proofs.operate.Goals as goal
+
+pub returns : goal.returns
+returns c = grind (arith, common_steps, to_z-of_z, c.operate.ensures, c.from.ensures, c.from-2.ensures, c.if-ne.ensures)

@@ -1,8 +1,0 @@
-use Rattle.std.proofs.Common.{ap, ◌∙◌, arith}
-use Rattle.std.proofs.lemmas.Int.{ints}
-use Rattle.host.specs.declared.HostFault.TheVariants.{SubOverflow}
-use Rattle.arithmetic.specs.Operations.{settled}
-use Rattle.arithmetic.proofs.subtract.Goals as goal
-
-pub returns : goal.returns
-returns c = c.settle.ensures ∙ ap (settled SubOverflow c.args.t) (omega (arith, ints))

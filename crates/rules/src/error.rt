@@ -79,7 +79,7 @@ impl Cause {
             Cause::OutOfFuel => 50,
             Cause::TooDeep => 51,
             Cause::NotConstructible => 53,
-            Cause::Name(fault) => fault.number(),
+            Cause::Name(fault) => u16::from(fault),
             Cause::Host(fault) => fault.number(),
         }
     }

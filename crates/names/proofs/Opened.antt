@@ -1,8 +1,10 @@
 -- The open scopes of a table, one more, one less, and the outermost.
-use Rattle.std.proofs.Common.{◌≡◌, ℕ, zero, suc, ◌+◌, ◌-◌, ◌<◌, ◌≤◌, true, leb, List, [], ◌∷◌, ◌++◌, reverse, length, get_or, take, set, refl, ap, ◌∙◌, arith}
+use Rattle.std.proofs.Common.{◌≡◌, ℕ, zero, suc, ◌+◌, ◌-◌, ◌<◌, ◌≤◌, true, false, cond, leb, List, [], ◌∷◌, ◌++◌, reverse, length, get_or, take, set, Some, Option, refl, ap, ◌∙◌, arith}
 use Rattle.std.proofs.lemmas.List.{take_more, take_more_set, reverse-append}
 use Rattle.std.proofs.lemmas.Bool.{leb-true, le-leb, and_parts, and_from}
-use Rattle.names.specs.Scopes.{call_first, closed, if_call, local_first, local_of, nested, opened, root_end, top_first}
+use Rattle.std.specs.List.{find}
+use Rattle.std.specs.Option.{option_map, unwrap_or}
+use Rattle.names.specs.Scopes.{call_first, closed, if_call, is_call, local_first, local_of, nested, opened, root_end, top_first}
 use Rattle.names.specs.declared.scope.Scope.{Scope}
 use Rattle.names.specs.declared.scope.ScopeKind.{ScopeKind}
 use Rattle.names.specs.declared.scope.ScopeKind.TheVariants.{Regular, Transparent, Call}
@@ -26,6 +28,11 @@ root_end-outermost [] (suc d) n low high = absurd (omega arith)
 root_end-outermost (s ∷ table) (suc d) n low high =
     ap (λ xs. root_end xs n) (reverse-append (s ∷ []) (take d table)) ∙ root_end-last (reverse (take d table)) s n
 
+-- of the open scopes, the outermost first
+pub root_end-reverse : (scopes : List Scope) (n : ℕ) → 0 < length scopes → root_end (reverse scopes) n ≡ (get_or scopes 0 closed).first
+root_end-reverse [] n h = absurd (omega arith)
+root_end-reverse (s ∷ rest) n h = ap (λ xs. root_end xs n) (reverse-append (s ∷ []) rest) ∙ root_end-last (reverse rest) s n
+
 pub root_end_le : (scopes : List Scope) (n : ℕ) → nested scopes n ≡ true → root_end scopes n ≤ n
 root_end_le [] n h = omega arith
 root_end_le (s ∷ outer) n h =
@@ -42,9 +49,16 @@ nested_more (s ∷ outer) n k l h =
     let b : s.first ≤ k = omega arith in
     and_from _ _ (le-leb _ _ b) p.1
 
--- the innermost call's first name, one scope back from `i`
-pub call_first_back : (scopes : List Scope) (i : ℕ) → 0 < i → i ≤ length scopes → call_first (reverse (take i scopes)) ≡ if_call (get_or scopes (i - 1) closed).kind (get_or scopes (i - 1) closed).first (call_first (reverse (take (i - 1) scopes)))
-call_first_back scopes i low high = ap call_first (opened-top scopes i low high)
+-- one scope more, of a call or not
+call_first-more : (kind : ScopeKind) (s : Scope) (o : Option Scope) → unwrap_or (option_map (λ t. t.first) (cond (if_call kind true false) (Some s) o)) 0 ≡ if_call kind s.first (unwrap_or (option_map (λ t. t.first) o) 0)
+call_first-more Call s o = refl
+call_first-more Regular s o = refl
+call_first-more Transparent s o = refl
+
+-- the innermost call's scope is the first that is a call's
+pub call_first-find : (scopes : List Scope) → unwrap_or (option_map (λ s. s.first) (find is_call scopes)) 0 ≡ call_first scopes
+call_first-find [] = refl
+call_first-find (s ∷ outer) = call_first-more s.kind s (find is_call outer) ∙ ap (if_call s.kind s.first) (call_first-find outer)
 
 pub if_call_other : {A : Type 0} (kind : ScopeKind) (a b : A) → (kind ≡ Call → ⊥) → if_call kind a b ≡ b
 if_call_other Call a b h = absurd (h refl)

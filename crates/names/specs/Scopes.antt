@@ -1,8 +1,14 @@
 -- Scopes that are open inside the root's, the innermost first, by the places of their first names.
-use Rattle.std.specs.Prelude.{ℕ, Bool, true, ◌&&◌, List, [], ◌∷◌, reverse, take, nat_le}
+use Rattle.std.specs.Prelude.{◌≡◌, ◌≤◌, ℕ, Bool, true, false, ◌&&◌, List, [], ◌∷◌, codes, length, slice_index_or, reverse, take, nat_le}
 use Rattle.names.specs.declared.scope.Scope.{Scope}
 use Rattle.names.specs.declared.scope.ScopeKind.{ScopeKind}
 use Rattle.names.specs.declared.scope.ScopeKind.TheVariants.{Regular, Transparent, Call}
+
+-- How the kinds of scopes are written, as bytes.
+abbrev pub scope_word : ScopeKind → List ℕ
+scope_word Regular = codes "regular"
+scope_word Transparent = codes "transparent"
+scope_word Call = codes "call"
 
 -- The record of a scope that is not open.
 abbrev pub closed : Scope
@@ -17,6 +23,10 @@ abbrev pub if_call : {A : Type 0} → ScopeKind → A → A → A
 if_call Call a b = a
 if_call Regular a b = b
 if_call Transparent a b = b
+
+-- Whether a scope is a call's.
+abbrev pub is_call : Scope → Bool
+is_call scope = if_call scope.kind true false
 
 -- Where the names begin that a callee has of its own: the first of the innermost call's scope, 0 where none runs.
 abbrev pub call_first : List Scope → ℕ
@@ -47,3 +57,12 @@ root_end (scope ∷ outer) n = root_end outer scope.first
 abbrev pub nested : List Scope → ℕ → Bool
 nested [] n = true
 nested (scope ∷ outer) n = nat_le scope.first n && nested outer scope.first
+
+-- A table of scopes that are open to a depth, over n names: they are in order, the innermost call's names begin at `own`,
+-- and the records of the others are blank.
+pub record Scoped (table : List Scope) (depth own n : ℕ) : Type 0 where
+  pub sized : length table ≡ 257
+  pub shallow : depth ≤ 257
+  pub in_order : nested (opened table depth) n ≡ true
+  pub called : own ≡ call_first (opened table depth)
+  pub cleared : (k : ℕ) → depth ≤ k → slice_index_or table k closed ≡ closed

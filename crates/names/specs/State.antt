@@ -1,8 +1,7 @@
--- What is bound, and which scopes are open.
-use Rattle.std.specs.Prelude.{ℕ, List, take}
-use Rattle.names.specs.Scopes.{opened}
+-- What a table of names says: what is bound, and which scopes are open.
+use Rattle.std.specs.Prelude.{◌≡◌, ℕ, true, List, length}
+use Rattle.names.specs.Scopes.{nested}
 use Rattle.names.specs.declared.binding.Binding.{Binding}
-use Rattle.names.specs.declared.names.Names.{Names}
 use Rattle.names.specs.declared.scope.Scope.{Scope}
 
 pub record State (V : Type 0) : Type 0 where
@@ -13,6 +12,6 @@ pub record State (V : Type 0) : Type 0 where
   -- how many names there may be
   pub usable : ℕ
 
--- What a table of names says. Its records past the bound ones, and those of scopes that are not open, are free.
-abbrev pub state_of : {V : Type 0} → Names V → State V
-state_of n = record { bindings = take n.bound n.table.now; scopes = opened n.scopes n.depth; usable = n.usable }
+-- The open scopes are in order: none begins behind the last name, or behind a scope inside it.
+abbrev pub InOrder : {V : Type 0} → State V → Type 0
+InOrder s = nested s.scopes (length s.bindings) ≡ true

@@ -12,11 +12,12 @@ pub enum NameFault {
     NoNames,
 }
 
-impl NameFault {
-    pub fn number(self) -> u16
-        ensures { result ≡ name_fault_number self }
-    {
-        match self {
+// The number under which a refusal is printed.
+impl From<NameFault> for u16 {
+    ghost from_gives = { λ fault number. number ≡ name_fault_number fault };
+
+    fn from(fault: NameFault) -> u16 {
+        match fault {
             NameFault::AssignType => 11,
             NameFault::WriteRefType => 12,
             NameFault::NotRef => 13,

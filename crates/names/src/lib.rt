@@ -3,6 +3,7 @@
 pub mod bind;
 pub mod binding;
 pub mod error;
+mod lent;
 pub mod lookup;
 pub mod names;
 pub mod scope;

@@ -1,9 +1,17 @@
 // Scopes that are open inside the root's.
 ghost use Rattle.std.specs.Prelude.{◌≡◌, reverse};
-ghost use Rattle.names.specs.Scopes.{call_first};
+ghost use Rattle.syntax.specs.Symbols.{Reads};
+ghost use Rattle.std.specs.List.{find};
+ghost use Rattle.std.specs.Option.{option_map, unwrap_or};
+ghost use Rattle.names.specs.Scopes.{is_call, local_first, root_end, scope_word};
+ghost use Rattle.names.specs.declared.scope.Scope.{Scope};
 
-#[derive(Clone, Copy)]
+use std::str::FromStr;
+use syntax::UnknownWord;
+
+#[derive(Clone, Copy, Default, PartialEq, Eq, Debug)]
 pub enum ScopeKind {
+    #[default]
     Regular,
     // its names may not be those of its parent
     Transparent,
@@ -11,7 +19,23 @@ pub enum ScopeKind {
     Call,
 }
 
-#[derive(Clone, Copy)]
+impl FromStr for ScopeKind {
+    type Err = UnknownWord;
+
+    ghost from_str_gives = { Reads scope_word };
+
+    fn from_str(text: &str) -> Result<ScopeKind, UnknownWord> {
+        match text {
+            "regular" => Ok(ScopeKind::Regular),
+            "transparent" => Ok(ScopeKind::Transparent),
+            "call" => Ok(ScopeKind::Call),
+            _ => Err(UnknownWord),
+        }
+    }
+}
+
+// The default is the record of a scope that is not open.
+#[derive(Clone, Copy, Default)]
 pub struct Scope {
     // the place of its first name
     pub first: usize,
@@ -20,13 +44,33 @@ pub struct Scope {
 
 // The first name of the innermost call, 0 where none runs.
 pub(crate) fn call_first(scopes: &[Scope]) -> usize
-    ensures { result ≡ call_first (reverse scopes.now) }
+    ensures { result ≡ unwrap_or (option_map (λ (scope : Scope). scope.first) (find is_call (reverse scopes.now))) 0 }
 {
-    for i in (0..scopes.len()).rev() {
-        let scope = scopes[i];
-        if let ScopeKind::Call = scope.kind {
-            return scope.first;
-        }
+    scopes
+        .iter()
+        .rev()
+        .find(|scope| scope.kind == ScopeKind::Call)
+        .map_or(0, |scope| scope.first)
+}
+
+// Where the root's names end, of n names in all.
+pub(crate) fn root_end(scopes: &[Scope], n: usize) -> usize
+    ensures { result ≡ root_end (reverse scopes.now) n }
+{
+    match scopes {
+        [outermost, ..] => outermost.first,
+        [] => n,
     }
-    0
+}
+
+// Where the names begin that a new one must differ from.
+pub(crate) fn local_first(scopes: &[Scope]) -> usize
+    ensures { result ≡ local_first (reverse scopes.now) }
+{
+    match scopes {
+        [.., parent, scope] if scope.kind == ScopeKind::Transparent => parent.first,
+        [scope] if scope.kind == ScopeKind::Transparent => 0,
+        [.., scope] => scope.first,
+        [] => 0,
+    }
 }

@@ -19,10 +19,7 @@ fn fill(names: &mut Names<Scalar>, count: u16, each: u16) -> Result<(), NameFaul
 }
 
 fn place_of(names: &Names<Scalar>, name: u16) -> u64 {
-    match names.lookup(name) {
-        Ok(found) => found.place as u64,
-        Err(_) => 0,
-    }
+    names.lookup(name).map_or(0, |found| found.place as u64)
 }
 
 // Looks each name up in turn, and prints the sum of the places at which they are found.

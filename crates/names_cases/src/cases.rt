@@ -1,23 +1,45 @@
 // One operation, from its line to its answer.
-use names::binding::Binding;
+use names::binding::Found;
 use names::error::NameFault;
 use names::names::Names;
-use names::scope::ScopeKind;
 use scalar::values::Scalars;
 use scalar_value::Scalar;
 use scalar_value::field::from_field;
 use std::fmt;
-use syntax::DeclarationKind;
+use std::num::ParseIntError;
+use syntax::UnknownWord;
 
 #[derive(Clone, Copy)]
 pub enum Answer {
     Done,
     Bound,
-    Fault(NameFault),
-    Found(usize, Binding<Scalar>),
+    // none where no variable stands
+    Found(Option<Found<Scalar>>),
     Truth(bool),
-    Nothing,
+}
+
+#[derive(Clone, Copy)]
+pub enum Refusal {
     NoOperation,
+    Fault(NameFault),
+}
+
+impl From<NameFault> for Refusal {
+    fn from(fault: NameFault) -> Refusal {
+        Refusal::Fault(fault)
+    }
+}
+
+impl From<ParseIntError> for Refusal {
+    fn from(_: ParseIntError) -> Refusal {
+        Refusal::NoOperation
+    }
+}
+
+impl From<UnknownWord> for Refusal {
+    fn from(_: UnknownWord) -> Refusal {
+        Refusal::NoOperation
+    }
 }
 
 impl fmt::Display for Answer {
@@ -25,118 +47,85 @@ impl fmt::Display for Answer {
         match *self {
             Answer::Done => Ok(()),
             Answer::Bound => write!(f, " = ok"),
-            Answer::Fault(fault) => {
-                let number = fault.number();
-                write!(f, " = !{number}")
-            }
-            Answer::Found(place, binding) => {
-                let name = binding.name;
-                let kind = binding.kind.symbol();
-                let value = binding.value;
+            Answer::Found(Some(Found { place, binding })) => {
+                let (kind, name, value) = (binding.kind, binding.name, binding.value);
                 write!(f, " = {place}: {kind} {name} {value}")
             }
+            Answer::Found(None) => write!(f, " = none"),
             Answer::Truth(true) => write!(f, " = yes"),
             Answer::Truth(false) => write!(f, " = no"),
-            Answer::Nothing => write!(f, " = none"),
-            Answer::NoOperation => write!(f, ": no operation"),
         }
     }
 }
 
-fn bound(answer: Result<(), NameFault>) -> Answer {
-    match answer {
-        Ok(()) => Answer::Bound,
-        Err(fault) => Answer::Fault(fault),
+impl fmt::Display for Refusal {
+    fn fmt<W: fmt::Write>(&self, f: &mut fmt::Formatter<W>) -> fmt::Result {
+        match *self {
+            Refusal::NoOperation => write!(f, ": no operation"),
+            Refusal::Fault(fault) => write!(f, " = !{}", u16::from(fault)),
+        }
     }
 }
 
-fn scope_kind(word: &str) -> Option<ScopeKind> {
-    match word {
-        "regular" => Some(ScopeKind::Regular),
-        "transparent" => Some(ScopeKind::Transparent),
-        "call" => Some(ScopeKind::Call),
-        _ => None,
-    }
+// The first word, and what comes after it.
+fn first_word(text: &str) -> Result<(&str, &str), Refusal> {
+    text.split_once(' ').ok_or(Refusal::NoOperation)
 }
 
-fn declaration_kind(word: &str) -> Option<DeclarationKind> {
-    match word {
-        "const" => Some(DeclarationKind::Const),
-        "let" => Some(DeclarationKind::Let),
-        "var" => Some(DeclarationKind::Var),
-        _ => None,
-    }
-}
-
-fn open(names: &mut Names<Scalar>, rest: &str) -> Option<Answer> {
-    names.open_scope(scope_kind(rest)?);
-    Some(Answer::Done)
-}
-
-fn close(names: &mut Names<Scalar>, rest: &str) -> Option<Answer> {
-    match rest {
-        "scope" => names.close_scope(),
-        "all" => names.close_all(),
-        _ => return None,
-    }
-    Some(Answer::Done)
-}
-
-fn bind(names: &mut Names<Scalar>, rest: &str) -> Option<Answer> {
-    let (kind, rest) = rest.split_once(' ')?;
-    let (name, value) = rest.split_once(' ')?;
-    let name: u16 = name.parse().ok()?;
-    let value = from_field(value.as_bytes())?;
-    Some(bound(names.bind(name, declaration_kind(kind)?, value)))
-}
-
-fn lookup(names: &Names<Scalar>, rest: &str) -> Option<Answer> {
-    match names.lookup(rest.parse().ok()?) {
-        Ok(found) => Some(Answer::Found(found.place, found.binding)),
-        Err(fault) => Some(Answer::Fault(fault)),
-    }
-}
-
-fn variable(names: &Names<Scalar>, rest: &str) -> Option<Answer> {
-    let place: usize = rest.parse().ok()?;
-    match names.variable(place) {
-        Some(binding) => Some(Answer::Found(place, binding)),
-        None => Some(Answer::Nothing),
-    }
+fn value_of(text: &str) -> Result<Scalar, Refusal> {
+    from_field(text.as_bytes()).ok_or(Refusal::NoOperation)
 }
 
 // A place and a value.
-fn at_place(rest: &str) -> Option<(usize, Scalar)> {
-    let (place, value) = rest.split_once(' ')?;
-    Some((place.parse().ok()?, from_field(value.as_bytes())?))
+fn at_place(rest: &str) -> Result<(usize, Scalar), Refusal> {
+    let (place, value) = first_word(rest)?;
+    Ok((place.parse()?, value_of(value)?))
 }
 
-fn operation(names: &mut Names<Scalar>, word: &str, rest: &str) -> Option<Answer> {
+fn close(names: &mut Names<Scalar>, rest: &str) -> Result<Answer, Refusal> {
+    match rest {
+        "scope" => names.close_scope(),
+        "all" => names.close_all(),
+        _ => return Err(Refusal::NoOperation),
+    }
+    Ok(Answer::Done)
+}
+
+fn bind(names: &mut Names<Scalar>, rest: &str) -> Result<Answer, Refusal> {
+    let (kind, rest) = first_word(rest)?;
+    let (name, value) = first_word(rest)?;
+    names.bind(name.parse()?, kind.parse()?, value_of(value)?)?;
+    Ok(Answer::Bound)
+}
+
+fn variable(names: &Names<Scalar>, rest: &str) -> Result<Answer, Refusal> {
+    let place = rest.parse()?;
+    let variable = names.variable(place);
+    Ok(Answer::Found(variable.map(|binding| Found { place, binding })))
+}
+
+pub fn perform(names: &mut Names<Scalar>, line: &str) -> Result<Answer, Refusal> {
+    let (word, rest) = first_word(line)?;
     match word {
-        "open" => open(names, rest),
+        "open" => {
+            names.open_scope(rest.parse()?);
+            Ok(Answer::Done)
+        }
         "close" => close(names, rest),
         "bind" => bind(names, rest),
-        "lookup" => lookup(names, rest),
-        "duplicate" => Some(Answer::Truth(names.duplicate(rest.parse().ok()?))),
+        "lookup" => Ok(Answer::Found(Some(names.lookup(rest.parse()?)?))),
+        "duplicate" => Ok(Answer::Truth(names.duplicate(rest.parse()?))),
         "variable" => variable(names, rest),
         "write" => {
             let (place, value) = at_place(rest)?;
-            Some(bound(names.write(&Scalars, place, value)))
+            names.write(&Scalars, place, value)?;
+            Ok(Answer::Bound)
         }
         "assign" => {
             let (place, value) = at_place(rest)?;
-            Some(bound(names.assign(&Scalars, place, value)))
+            names.assign(&Scalars, place, value)?;
+            Ok(Answer::Bound)
         }
-        _ => None,
-    }
-}
-
-pub fn perform(names: &mut Names<Scalar>, line: &str) -> Answer {
-    let Some((word, rest)) = line.split_once(' ') else {
-        return Answer::NoOperation;
-    };
-    match operation(names, word, rest) {
-        Some(answer) => answer,
-        None => Answer::NoOperation,
+        _ => Err(Refusal::NoOperation),
     }
 }

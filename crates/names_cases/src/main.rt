@@ -27,19 +27,17 @@ fn table_of(line: &str) -> Option<usize> {
     line.strip_prefix("table ")?.parse().ok()
 }
 
-// Performs the lines after the one at `at` on a new table, up to the next line that asks for one, and says where that is.
-fn block(rt: &HostRuntime, lines: &Vec<String>, at: usize, length: usize) -> anyhow::Result<usize> {
+// Performs operations on a new table of a length, and prints each with its answer.
+fn on_table(rt: &HostRuntime, length: usize, operations: &[String]) -> anyhow::Result<()> {
     let mut table = vec![in rt.alloc(); FREE; length]?;
     let mut names = Names::new(table.as_mut_slice());
-    for i in at..lines.len() {
-        let line = lines[i].as_str();
-        if table_of(line).is_some() {
-            return Ok(i);
+    for line in operations {
+        match perform(&mut names, line.as_str()) {
+            Ok(answer) => println!(rt; "{line}{answer}")?,
+            Err(refusal) => println!(rt; "{line}{refusal}")?,
         }
-        let answer = perform(&mut names, line);
-        println!(rt; "{line}{answer}")?;
     }
-    Ok(lines.len())
+    Ok(())
 }
 
 fn all_cases(rt: &HostRuntime) -> anyhow::Result<()> {
@@ -47,14 +45,14 @@ fn all_cases(rt: &HostRuntime) -> anyhow::Result<()> {
     for line in rt.lines(rt.alloc()) {
         lines.push(line?)?;
     }
-    let mut next = 0;
-    for i in 0..lines.len() {
-        let line = lines[i].as_str();
-        if let Some(length) = table_of(line) {
-            println!(rt; "{line}")?;
-            next = block(rt, &lines, i + 1, length)?;
-        } else if i >= next {
-            return Err(anyhow!("an operation before any table"));
+    // each block begins with a line that asks for a table
+    for block in lines.chunk_by(|_, line| table_of(line.as_str()).is_none()) {
+        if let [first, operations @ ..] = block {
+            let Some(length) = table_of(first.as_str()) else {
+                return Err(anyhow!("an operation before any table"));
+            };
+            println!(rt; "{first}")?;
+            on_table(rt, length, operations)?;
         }
     }
     Ok(())
@@ -62,14 +60,14 @@ fn all_cases(rt: &HostRuntime) -> anyhow::Result<()> {
 
 fn run(rt: &HostRuntime) -> anyhow::Result<()> {
     let args: Vec<String> = env::args(rt)?.skip(1).collect(rt.alloc())?;
-    match args.len() {
-        0 => all_cases(rt),
-        3 => {
-            let count: u16 = args[0].as_str().parse()?;
-            let each: u16 = args[1].as_str().parse()?;
-            let rounds: u64 = args[2].as_str().parse()?;
-            bench::look_up(rt, count, each, rounds)
-        }
+    match args.as_slice() {
+        [] => all_cases(rt),
+        [count, each, rounds] => bench::look_up(
+            rt,
+            count.as_str().parse()?,
+            each.as_str().parse()?,
+            rounds.as_str().parse()?,
+        ),
         _ => Err(anyhow!("{USAGE}")),
     }
 }

@@ -80,7 +80,7 @@ impl From<Cause> for u16 {
             Cause::OutOfFuel => 50,
             Cause::TooDeep => 51,
             Cause::NotConstructible => 53,
-            Cause::Name(fault) => fault.number(),
+            Cause::Name(fault) => u16::from(fault),
             Cause::Host(fault) => u16::from(fault),
         }
     }

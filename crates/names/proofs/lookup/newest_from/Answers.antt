@@ -1,20 +1,19 @@
-use Rattle.std.proofs.Common.{sym, ◌∙◌, arith, rules}
-use Rattle.std.proofs.lemmas.List.{take_all}
-use Rattle.names.proofs.Newest.{newest_hit, newest_miss, newest-none}
+use Rattle.std.proofs.Common.{◌≡◌, drop, sym, ap, ◌∙◌, rules, arith}
+use Rattle.std.proofs.lemmas.Grind.{common_steps}
+use Rattle.names.specs.Rules.{newest}
+use Rattle.names.proofs.Newest.{newest-last, newest-none}
 use Rattle.names.proofs.lookup.newest_from.Goals as goal
 
-pub loop-place-init : goal.loop-place-init
-loop-place-init g c = search (rules, take_all)
-
-pub returns-then-binding-name : goal.returns-then-binding-name
-returns-then-binding-name g c =
-    let r = c.index-bindings-place in
-    sym (c.loop-place.invariant ∙ newest_hit _ _ _ _ r.result c.loop-place-test.true (omega arith) r.is c.if-binding-name.true)
-
-pub loop-place-preserved : goal.loop-place-preserved
-loop-place-preserved g c =
-    let r = c.index-bindings-place in
-    c.loop-place.invariant ∙ newest_miss _ _ _ _ r.result c.loop-place-test.true (omega arith) r.is c.if-binding-name.false
+pub returns-in_err-place : goal.returns-in_err-place
+returns-in_err-place g c =
+    let e : c.in_ok-seen.seen.now ≡ drop c.args.low c.args.bindings.now = first_of (search rules, grind (arith, common_steps)) in
+    c.from_residual-in_err-place.ensures
+    ∙ sym (newest-none c.args.name c.args.low c.in_ok-seen.seen.now c.in_err-place.ensures)
+    ∙ ap (newest c.args.name c.args.low) e
 
 pub returns : goal.returns
-returns g c = sym (c.loop-place.invariant ∙ newest-none _ _ _ _ c.loop-place-test.false)
+returns g c =
+    let r = c.index-seen-place in
+    let k = c.in_ok-place.ensures in
+    let e : c.in_ok-seen.seen.now ≡ drop c.args.low c.args.bindings.now = first_of (search rules, grind (arith, common_steps)) in
+    sym (newest-last c.args.name c.args.low c.in_ok-seen.seen.now c.in_ok-place.place r.result k.0 r.is (ap (λ b. b.name) r.is ∙ k.1 r.result) k.2) ∙ ap (newest c.args.name c.args.low) e

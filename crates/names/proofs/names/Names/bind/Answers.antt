@@ -1,17 +1,15 @@
-use Rattle.std.proofs.Common.{sym, ap, ◌∙◌}
-use Rattle.std.specs.Result.{result_unwrap_or}
-use Rattle.names.specs.Rules.{answered}
-use Rattle.names.specs.State.{state_of}
-use Rattle.names.proofs.Writing.{bind_finds, bind_is, bind_others_stay, bind-state}
+use Rattle.names.specs.Scopes.{opened}
+use Rattle.names.proofs.Writing.{bind_finds, bind_others_stay}
 use Rattle.names.proofs.names.Names.bind.Goals as goal
 
-pub returns : goal.returns
-returns g c =
-    let n = c.args.self.now in
-    let e = bind_is n c.args.name c.args.kind c.args.value c.if-self.false c.if-duplicate.ensures in
-    record {
-      answer = sym (ap answered e);
-      state = bind-state n _ c.if-self.false ∙ sym (ap (λ o. result_unwrap_or o (state_of n)) e);
-      finds = λ _. bind_finds n _ c.if-self.false;
-      others_stay = bind_others_stay n _ c.if-self.false;
-    }
+pub returns-clause-finds : goal.returns-clause-finds
+returns-clause-finds g c =
+    let i = c.self.inside in
+    bind_finds (opened i.scopes i.depth) (record { name = c.args.name; kind = c.args.kind; value = c.args.value }) i.bindings c.push.new.self c.args.self.now c.self.view_is c.self.invariant.in_order
+    c.push.result c.map_err.result c.push.ensures c.map_err.ensures.variant
+
+pub returns-clause-others_stay : goal.returns-clause-others_stay
+returns-clause-others_stay g c =
+    let i = c.self.inside in
+    bind_others_stay (opened i.scopes i.depth) (record { name = c.args.name; kind = c.args.kind; value = c.args.value }) i.bindings c.push.new.self c.args.self.now c.self.view_is c.self.invariant.in_order
+    c.push.result c.push.ensures

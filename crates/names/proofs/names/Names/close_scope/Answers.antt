@@ -1,22 +1,22 @@
-use Rattle.std.proofs.Common.{◌<◌, ◌∙◌, arith}
-use Rattle.names.proofs.Scoping.{close_called, close_cleared, close_nested, close_room, close_root_survives, close_sized, close_state}
+use Rattle.std.proofs.Common.{◌-◌, reverse, take, set, ◌∙◌, subst, arith}
+use Rattle.std.proofs.lemmas.Grind.{common_steps}
+use Rattle.names.specs.State.{InOrder}
+use Rattle.names.proofs.Laws.{close_root}
+use Rattle.names.proofs.Opened.{call_first-find}
 use Rattle.names.proofs.names.Names.close_scope.Goals as goal
 
 pub invariant_of-self : goal.invariant_of-self
 invariant_of-self g c =
-    let n = c.args.self.now in
-    let h : 0 < n.depth = omega arith in
-    record {
-      fits = n.fits;
-      room = omega (arith, n.room, close_room n h);
-      sized = close_sized n h;
-      shallow = omega (arith, n.shallow);
-      in_order = close_nested n h;
-      called = c.outer_own-self.ensures ∙ close_called n h;
-    }
+    let i = c.self.inside in
+    let e = c.call_first-self-inside.ensures ∙ call_first-find (reverse (take (i.depth - 1) (set i.scopes (i.depth - 1) c.default.result))) in
+    grind (arith, common_steps)
 
-pub returns : goal.returns
-returns g c =
-    let n = c.args.self.now in
-    let h : 0 < n.depth = omega arith in
-    record { state = close_state n h; root_survives = close_root_survives n h; cleared = λ _. close_cleared n h }
+pub returns-then-eq-clause-root_survives : goal.returns-then-eq-clause-root_survives
+returns-then-eq-clause-root_survives g c =
+    let e = close_root c.args.self.now (subst InOrder c.self.view_is c.self.invariant.in_order) in
+    grind (arith, common_steps)
+
+pub returns-else-eq-clause-root_survives : goal.returns-else-eq-clause-root_survives
+returns-else-eq-clause-root_survives g c =
+    let e = close_root c.args.self.now (subst InOrder c.self.view_is c.self.invariant.in_order) in
+    grind (arith, common_steps)

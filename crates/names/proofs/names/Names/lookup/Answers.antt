@@ -1,11 +1,12 @@
-use Rattle.std.proofs.Common.{ap, ◌∙◌, arith}
-use Rattle.std.specs.Option.{ok_or}
-use Rattle.names.specs.declared.error.NameFault.TheVariants.{UnknownDecl}
-use Rattle.names.proofs.Finding.{lookup_root}
+use Rattle.std.proofs.Common.{◌≤◌, length, subst, arith}
+use Rattle.std.proofs.lemmas.Grind.{common_steps}
+use Rattle.names.specs.State.{InOrder}
+use Rattle.names.proofs.Opened.{root_end_le}
 use Rattle.names.proofs.names.Names.lookup.Goals as goal
 
-pub returns : goal.returns
-returns g c =
-    let n = c.args.self.now in
-    let e = lookup_root n c.root_end.result c.root_end.ensures.value c.root_end.ensures.within (omega arith) c.args.name c.in_default.ensures in
-    c.ok_or.ensures.value ∙ ap (λ o. ok_or o UnknownDecl) c.newest_from-2.ensures ∙ e
+pub slice_bounds-root-end : goal.slice_bounds-root-end
+slice_bounds-root-end g c =
+    let s = c.args.self.now in
+    let e = root_end_le s.scopes (length s.bindings) (subst InOrder c.self.view_is c.self.invariant.in_order) in
+    let h : c.root_end.result ≤ length c.as_slice-bindings.result.now = grind (arith, common_steps) in
+    grind (arith, common_steps)

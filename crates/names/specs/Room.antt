@@ -1,0 +1,7 @@
+-- A list in a table of its own.
+use Rattle.std.specs.Prelude.{ℕ, List}
+
+-- The items, and how many there may be.
+pub record Room (T : Type 0) : Type 0 where
+  pub items : List T
+  pub capacity : ℕ

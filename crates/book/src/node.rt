@@ -14,7 +14,7 @@ use std::marker::Model;
 use syntax::{BinaryOperator, DeclarationKind, ShortCircuit, UnaryOperator};
 
 // A list of words in the book, which are read in turn.
-#[derive(Clone, Drop)]
+#[derive(Drop)]
 pub struct Items<'a> {
     words: &'a [u16],
 }
@@ -27,7 +27,14 @@ impl<'a> Model for Items<'a> {
     ghost view = { λ s. s.words.now };
 }
 
-impl Items<'_> {
+impl<'a> Items<'a> {
+    // The list, to read it and keep it.
+    pub fn iter(&self) -> Items<'a>
+        ensures { result ≡ self.now }
+    {
+        Items { words: self.words }
+    }
+
     // How many words are left.
     pub fn len(&self) -> usize
         ensures { result ≡ length self.now }
@@ -59,7 +66,7 @@ impl<'a> Iterator for Items<'a> {
 
 // A list of pairs of words in the book, which are read in turn. It is a type of its own, since a list of `T` would show
 // contracts a pair as a list of two words.
-#[derive(Clone, Drop)]
+#[derive(Drop)]
 pub struct Pairs<'a> {
     pairs: &'a [[u16; 2]],
 }
@@ -73,7 +80,14 @@ impl<'a> Model for Pairs<'a> {
     ghost view = { λ s. map as_pair s.pairs.now };
 }
 
-impl Pairs<'_> {
+impl<'a> Pairs<'a> {
+    // The list, to read it and keep it.
+    pub fn iter(&self) -> Pairs<'a>
+        ensures { result ≡ self.now }
+    {
+        Pairs { pairs: self.pairs }
+    }
+
     // How many pairs are left.
     pub fn len(&self) -> usize
         ensures { result ≡ length self.now }
@@ -104,7 +118,7 @@ impl<'a> Iterator for Pairs<'a> {
 }
 
 // An entry's construct with its parts; children are entries, and lists are parts of the book's words.
-#[derive(Clone, Drop)]
+#[derive(Drop)]
 pub enum Node<'a> {
     Unit {
         children: Items<'a>,

@@ -157,7 +157,7 @@ impl<'a> Summaries<'a> {
 
     // The control of an entry: its children stand after it, and their summaries make that of the entry.
     #[tactic(auto, using(crate::proofs::Openings::follow_at, crate::proofs::Summed::summed_at))]
-    fn control(&self, entry: u16) -> Control<'a>
+    pub fn control(&self, entry: u16) -> Control<'a>
         ensures value { result ≡ control self.now entry }
         ensures follow { Follows self.now entry result }
         ensures summed { entry < entries self.now → summary self.now entry ≡ control_summary self.now entry result }

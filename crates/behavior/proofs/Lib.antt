@@ -2,5 +2,4 @@ pub mod Descents
 pub mod Follows
 pub mod Openings
 pub mod Summed
-pub mod Defaults
 pub mod Walked

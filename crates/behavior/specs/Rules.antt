@@ -1,7 +1,7 @@
 -- The rules of behaviors: how each statement may end.
 use Rattle.std.specs.Prelude.{ℕ, zero, suc, ◌-◌, Bool, true, false, cond, not, ◌||◌, List, [], ◌∷◌, Some, None, Option, ◌==◌}
+use Rattle.std.specs.List.{list_any}
 use Rattle.layout.specs.Layout.{entries}
-use Rattle.book.specs.Nodes.{listed, paired}
 use Rattle.control.specs.Control.{control, exits, is_statement}
 use Rattle.control.specs.declared.Control.{Control}
 use Rattle.control.specs.declared.Control.TheVariants.{Break, Continue, Continuing, Forever, Function, If, Loop, Other, Plain, Return, Sequence, Switch, While}
@@ -44,8 +44,7 @@ joined f so_far (c ∷ cs) = joined f (union so_far (f c.1)) cs
 
 -- Whether a clause has no selector
 abbrev pub has_default : List (ℕ × ℕ) → Bool
-has_default [] = false
-has_default (c ∷ cs) = c.0 == 0 || has_default cs
+has_default cs = list_any (λ (c : ℕ × ℕ). c.0 == 0) cs
 
 -- An else that is absent goes on
 abbrev pub else_of : (ℕ → Behavior) → Option ℕ → Behavior
@@ -77,9 +76,9 @@ exits_by ws (Some c) = exits (control ws c)
 abbrev pub control_behavior : List ℕ → (ℕ → Behavior) → Control → Behavior
 control_behavior ws f Other = none
 control_behavior ws f Plain = only_next
-control_behavior ws f (Sequence s) = in_turn f only_next (listed ws s)
-control_behavior ws f (If s o) = joined f (else_of f o) (paired ws s)
-control_behavior ws f (Switch s) = plus_next (turned (joined f none (paired ws s))) (not (has_default (paired ws s)))
+control_behavior ws f (Sequence s) = in_turn f only_next s
+control_behavior ws f (If s o) = joined f (else_of f o) s
+control_behavior ws f (Switch s) = plus_next (turned (joined f none s)) (not (has_default s))
 control_behavior ws f (Loop b c) = looped (f b) (exits_by ws c)
 control_behavior ws f (While b) = tested (f b)
 control_behavior ws f (Forever b) = forever (f b)

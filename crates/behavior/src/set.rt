@@ -2,7 +2,7 @@
 ghost use Rattle.std.specs.Prelude.{◌≡◌};
 ghost use Rattle.behavior.specs.Rules.{beyond_next, followed, looped, plus_next, tested, turned, union};
 
-#[derive(Clone, Copy)]
+#[derive(Clone, Copy, PartialEq, Eq, Debug)]
 pub struct Behavior {
     pub next: bool,
     pub breaks: bool,
@@ -17,32 +17,21 @@ pub const NONE: Behavior = Behavior {
     returns: false,
 };
 
-pub(crate) const NEXT: Behavior = Behavior {
-    next: true,
-    breaks: false,
-    continues: false,
-    returns: false,
-};
+pub(crate) const NEXT: Behavior = Behavior { next: true, ..NONE };
 
 pub(crate) const BREAK: Behavior = Behavior {
-    next: false,
     breaks: true,
-    continues: false,
-    returns: false,
+    ..NONE
 };
 
 pub(crate) const CONTINUE: Behavior = Behavior {
-    next: false,
-    breaks: false,
     continues: true,
-    returns: false,
+    ..NONE
 };
 
 pub(crate) const RETURN: Behavior = Behavior {
-    next: false,
-    breaks: false,
-    continues: false,
     returns: true,
+    ..NONE
 };
 
 impl Behavior {
@@ -65,9 +54,7 @@ impl Behavior {
         if self.next {
             Behavior {
                 next: by.next,
-                breaks: self.breaks || by.breaks,
-                continues: self.continues || by.continues,
-                returns: self.returns || by.returns,
+                ..self.union(by)
             }
         } else {
             self
@@ -80,9 +67,7 @@ impl Behavior {
     {
         Behavior {
             next: self.next || more,
-            breaks: self.breaks,
-            continues: self.continues,
-            returns: self.returns,
+            ..self
         }
     }
 
@@ -93,8 +78,7 @@ impl Behavior {
         Behavior {
             next: self.next || self.breaks,
             breaks: false,
-            continues: self.continues,
-            returns: self.returns,
+            ..self
         }
     }
 
@@ -104,9 +88,8 @@ impl Behavior {
     {
         Behavior {
             next: self.breaks || exits,
-            breaks: false,
-            continues: false,
             returns: self.returns,
+            ..NONE
         }
     }
 
@@ -116,9 +99,8 @@ impl Behavior {
     {
         Behavior {
             next: true,
-            breaks: false,
-            continues: false,
             returns: self.returns,
+            ..NONE
         }
     }
 

@@ -1,20 +1,21 @@
-// The summary of each entry, by two functions that call each other over a table of what is known.
-ghost use Rattle.std.specs.Prelude.{◌≡◌, ◌<◌, ◌≤◌, false, not, length};
+// The summary of each entry, by functions that call each other over a table of what is known.
+ghost use Rattle.std.specs.Prelude.{◌≡◌, ◌<◌, false, not};
 ghost use Rattle.layout.specs.Layout.{entries};
-ghost use Rattle.book.specs.Nodes.{listed, paired};
 ghost use Rattle.behavior.specs.Below.{earlier};
-ghost use Rattle.behavior.specs.Rules.{has_default, looped, none, only_next, plus_next, tested, turned};
-ghost use Rattle.behavior.specs.Summaries.{Filled, Follows, bare_set, clauses_from, continuing_summary, list_from, return_summary, summary, with_set};
+ghost use Rattle.behavior.specs.Rules.{behavior_at, has_default, looped, none, only_next, plus_next, tested, turned};
+ghost use Rattle.behavior.specs.Summaries.{Follows, bare_set, clauses_from, continuing_summary, control_summary, list_from, return_summary, summary, with_set};
+ghost use Rattle.control.specs.Control.{control};
 ghost use Rattle.control.specs.declared.Control.TheVariants.{Sequence, Switch};
 
 use crate::set::{BREAK, Behavior, CONTINUE, NEXT, NONE, RETURN};
 use book::book::Book;
 use book::node::{Items, Pairs};
 use control::{Control, control_at};
+use std::marker::Model;
 
 // The set of an entry, and the least entries below it that are a return without a value, a return with one, and a
 // continuing that leaves.
-#[derive(Clone, Copy)]
+#[derive(Clone, Copy, PartialEq, Eq, Debug)]
 pub struct Summary {
     pub behavior: Behavior,
     pub bare: Option<u16>,
@@ -27,8 +28,7 @@ fn earlier(a: Option<u16>, b: Option<u16>) -> Option<u16>
 {
     match (a, b) {
         (Some(a), Some(b)) => Some(a.min(b)),
-        (Some(a), None) => Some(a),
-        (None, b) => b,
+        (a, b) => a.or(b),
     }
 }
 
@@ -61,20 +61,16 @@ impl Summary {
     fn of_return(entry: u16, value: bool) -> Summary
         ensures { result ≡ return_summary entry value }
     {
-        let here = Some(entry);
+        let nothing = Summary::of(RETURN);
         if value {
             Summary {
-                behavior: RETURN,
-                bare: None,
-                valued: here,
-                leaving: None,
+                valued: Some(entry),
+                ..nothing
             }
         } else {
             Summary {
-                behavior: RETURN,
-                bare: here,
-                valued: None,
-                leaving: None,
+                bare: Some(entry),
+                ..nothing
             }
         }
     }
@@ -83,12 +79,7 @@ impl Summary {
     fn turned_to(self, behavior: Behavior) -> Summary
         ensures { result ≡ with_set behavior (bare_set none) self }
     {
-        Summary {
-            behavior,
-            bare: self.bare,
-            valued: self.valued,
-            leaving: self.leaving,
-        }
+        Summary { behavior, ..self }
     }
 
     // A switch of these bodies.
@@ -118,10 +109,8 @@ impl Summary {
     {
         if self.behavior.beyond_next() {
             Summary {
-                behavior: self.behavior,
-                bare: self.bare,
-                valued: self.valued,
                 leaving: Some(entry),
+                ..self
             }
         } else {
             self
@@ -130,132 +119,152 @@ impl Summary {
 }
 
 // Whether a clause has no selector.
-fn has_default(book: &Book, clauses: Pairs) -> bool
-    ensures { result ≡ has_default (paired book.now.words.now clauses) }
+fn has_default(mut clauses: Pairs) -> bool
+    ensures { result ≡ has_default clauses.entry }
 {
-    for i in 0..clauses.count {
-        match book.pair(clauses, i) {
-            Some((selector, _)) => {
-                if selector == 0 {
-                    return true;
-                }
-            }
-            None => return false,
-        }
-    }
-    false
+    clauses.any(|(selector, _)| selector == 0)
 }
 
-// The summary of an entry, from the table, or else made and kept there.
-#[cycle(summaries)]
-pub fn summary_of(book: &Book, known: &mut [Option<Summary>], entry: u16) -> Summary
-    requires within { entry < entries book.now.words.now }
-    requires room { entries book.now.words.now ≤ length known.old }
-    requires filled { Filled book.now.words.now known.old }
-    ensures value { result ≡ summary book.now.words.now entry }
-    ensures filled { Filled book.now.words.now known.new }
-{
-    if let Some(summary) = known[entry as usize] {
-        return summary;
-    }
-    let summary = summarize(book, known, entry);
-    known[entry as usize] = Some(summary);
-    summary
+// The summaries of a book's entries: those that were made are kept. In a clause it is the book's words.
+#[derive(Drop)]
+pub struct Summaries<'a> {
+    book: Book<'a>,
+    known: [Option<Summary>; 4096],
 }
 
-// The summary of an entry from those of its children.
-#[cycle(summaries)]
-fn summarize(book: &Book, known: &mut [Option<Summary>], entry: u16) -> Summary
-    requires within { entry < entries book.now.words.now }
-    requires room { entries book.now.words.now ≤ length known.old }
-    requires filled { Filled book.now.words.now known.old }
-    ensures value { result ≡ summary book.now.words.now entry }
-    ensures filled { Filled book.now.words.now known.new }
-{
-    match control_at(book, entry) {
-        Control::Other => Summary::of(NONE),
-        Control::Plain => Summary::of(NEXT),
-        Control::Break => Summary::of(BREAK),
-        Control::Continue => Summary::of(CONTINUE),
-        Control::Return(value) => Summary::of_return(entry, value),
-        Control::Sequence(items) => summary_of_list(book, known, entry, items),
-        Control::If(clauses, otherwise) => match otherwise {
-            Some(body) => {
-                let start = summary_of(book, known, body);
-                summary_of_clauses(book, known, entry, clauses, start)
-            }
-            None => summary_of_clauses(book, known, entry, clauses, Summary::of(NEXT)),
-        },
-        Control::Switch(clauses) => {
-            let bodies = summary_of_clauses(book, known, entry, clauses, Summary::of(NONE));
-            bodies.switched(has_default(book, clauses))
-        }
-        Control::Loop(body, continuing) => match continuing {
-            Some(last) => {
-                let first = summary_of(book, known, body);
-                let second = summary_of(book, known, last);
-                first.with(
-                    second,
-                    first.behavior.looped(control_at(book, last).exits()),
-                )
-            }
-            None => summary_of(book, known, body).looped(),
-        },
-        Control::While(body) => summary_of(book, known, body).tested(),
-        Control::Forever(body) => summary_of(book, known, body).looped(),
-        Control::Continuing(body, _) => summary_of(book, known, body).continuing(entry),
-        Control::Function(_, _, body) => summary_of(book, known, body),
-    }
+impl<'a> Model for Summaries<'a> {
+    ghost use Rattle.std.specs.Prelude.{ℕ, List};
+    ghost use Rattle.behavior.specs.Summaries.{Filled};
+
+    ghost Value = { List ℕ };
+
+    ghost view = { λ s. s.book.words.now };
+
+    ghost invariant = { λ s. Filled s.book.words.now s.known };
 }
 
-// The statements of a list in turn; each stands after the entry.
-#[cycle(summaries)]
-fn summary_of_list(book: &Book, known: &mut [Option<Summary>], entry: u16, items: Items) -> Summary
-    requires follow { Follows book.now.words.now entry (Sequence items) }
-    requires within { entry < entries book.now.words.now }
-    requires room { entries book.now.words.now ≤ length known.old }
-    requires filled { Filled book.now.words.now known.old }
-    ensures value { result ≡ list_from book.now.words.now (bare_set only_next) (listed book.now.words.now items) }
-    ensures filled { Filled book.now.words.now known.new }
-{
-    let mut so_far = Summary::of(NEXT);
-    for i in 0..items.count {
-        match book.item(items, i) {
-            Some(child) => {
-                let next = summary_of(book, known, child);
-                so_far = so_far.with(next, so_far.behavior.followed(next.behavior));
-            }
-            None => return so_far,
+impl<'a> Summaries<'a> {
+    // With none made yet.
+    #[tactic(auto, using(crate::proofs::Walked::blank))]
+    pub fn new(book: Book<'a>) -> Summaries<'a>
+        ensures { result ≡ book.entry.words.now }
+    {
+        Summaries {
+            book,
+            known: [None; 4096],
         }
     }
-    so_far
-}
 
-// The bodies of clauses joined to a summary so far; each stands after the entry.
-#[cycle(summaries)]
-fn summary_of_clauses(
-    book: &Book,
-    known: &mut [Option<Summary>],
-    entry: u16,
-    clauses: Pairs,
-    start: Summary,
-) -> Summary
-    requires follow { Follows book.now.words.now entry (Switch clauses) }
-    requires within { entry < entries book.now.words.now }
-    requires room { entries book.now.words.now ≤ length known.old }
-    requires filled { Filled book.now.words.now known.old }
-    ensures value { result ≡ clauses_from book.now.words.now start (paired book.now.words.now clauses) }
-    ensures filled { Filled book.now.words.now known.new }
-{
-    let mut so_far = start;
-    for i in 0..clauses.count {
-        match book.pair(clauses, i) {
-            Some((_, body)) => {
-                let next = summary_of(book, known, body);
-                so_far = so_far.with(next, so_far.behavior.union(next.behavior));
+    // The control of an entry: its children stand after it, and their summaries make that of the entry.
+    #[tactic(auto, using(crate::proofs::Openings::follow_at, crate::proofs::Summed::summed_at))]
+    pub fn control(&self, entry: u16) -> Control<'a>
+        ensures value { result ≡ control self.now entry }
+        ensures follow { Follows self.now entry result }
+        ensures summed { entry < entries self.now → summary self.now entry ≡ control_summary self.now entry result }
+    {
+        control_at(&self.book, entry)
+    }
+
+    // The summary of an entry, from the table, or else made and kept there; past the last entry there is nothing.
+    #[cycle(summaries)]
+    #[tactic(auto, using(crate::proofs::Walked::few_entries, crate::proofs::Walked::past_summary))]
+    pub fn of(&mut self, entry: u16) -> Summary
+        ensures value { result ≡ summary self.old entry }
+        ensures same { self.new ≡ self.old }
+    {
+        if entry >= self.book.entries() {
+            return Summary::of(NONE);
+        }
+        if let Some(summary) = self.known[entry as usize] {
+            return summary;
+        }
+        let summary = self.summarize(entry);
+        self.known[entry as usize] = Some(summary);
+        summary
+    }
+
+    // The summary of an entry from those of its children.
+    #[cycle(summaries)]
+    #[tactic(auto, using(crate::proofs::Summed::list_folds, crate::proofs::Summed::clause_folds), unfolding(crate::specs::Summaries::summary))]
+    fn summarize(&mut self, entry: u16) -> Summary
+        requires within { entry < entries self.old }
+        ensures value { result ≡ summary self.old entry }
+        ensures same { self.new ≡ self.old }
+    {
+        match self.control(entry) {
+            Control::Other => Summary::of(NONE),
+            Control::Plain => Summary::of(NEXT),
+            Control::Break => Summary::of(BREAK),
+            Control::Continue => Summary::of(CONTINUE),
+            Control::Return(value) => Summary::of_return(entry, value),
+            Control::Sequence(items) => self.of_list(entry, items),
+            Control::If(clauses, otherwise) => {
+                let start = match otherwise {
+                    Some(body) => self.of(body),
+                    None => Summary::of(NEXT),
+                };
+                self.of_clauses(entry, clauses, start)
             }
-            None => return so_far,
+            Control::Switch(clauses) => {
+                let default = has_default(clauses.iter());
+                self.of_clauses(entry, clauses, Summary::of(NONE)).switched(default)
+            }
+            Control::Loop(body, None) => self.of(body).looped(),
+            Control::Loop(body, Some(last)) => {
+                let first = self.of(body);
+                let second = self.of(last);
+                let exits = self.control(last).exits();
+                first.with(second, first.behavior.looped(exits))
+            }
+            Control::While(body) => self.of(body).tested(),
+            Control::Forever(body) => self.of(body).looped(),
+            Control::Continuing(body, _) => self.of(body).continuing(entry),
+            Control::Function(_, _, body) => self.of(body),
         }
     }
-    so_far
+
+    // The statements of a list in turn; each stands after the entry.
+    #[cycle(summaries)]
+    fn of_list(&mut self, entry: u16, items: Items) -> Summary
+        requires within { entry < entries self.old }
+        requires follow { Follows self.old entry (Sequence items) }
+        ensures value { result ≡ list_from self.old (bare_set only_next) items.entry }
+        ensures same { self.new ≡ self.old }
+    {
+        let mut so_far = Summary::of(NEXT);
+        for child in items {
+            let next = self.of(child);
+            so_far = so_far.with(next, so_far.behavior.followed(next.behavior));
+        }
+        so_far
+    }
+
+    // The bodies of clauses joined to a summary so far; each stands after the entry.
+    #[cycle(summaries)]
+    fn of_clauses(&mut self, entry: u16, clauses: Pairs, start: Summary) -> Summary
+        requires within { entry < entries self.old }
+        requires follow { Follows self.old entry (Switch clauses) }
+        ensures value { result ≡ clauses_from self.old start clauses.entry }
+        ensures same { self.new ≡ self.old }
+    {
+        let mut so_far = start;
+        for (_, body) in clauses {
+            let next = self.of(body);
+            so_far = so_far.with(next, so_far.behavior.union(next.behavior));
+        }
+        so_far
+    }
+
+    // The set of an entry, if it is a statement.
+    #[tactic(auto, unfolding(crate::specs::Summaries::summary))]
+    pub fn set_of(&mut self, entry: u16) -> Option<Behavior>
+        ensures value { result ≡ behavior_at self.old entry }
+        ensures same { self.new ≡ self.old }
+    {
+        if self.control(entry).is_statement() {
+            Some(self.of(entry).behavior)
+        } else {
+            None
+        }
+    }
 }

@@ -149,18 +149,3 @@ module _ (ws : List ℕ) (e : ℕ) where
   every_entry w h =
       ap is_some (node_within h (place ws e) refl (construct ws (place ws e)) refl)
       ∙ every_node ws (place ws e) (w.fields e h) (construct ws (place ws e)) refl (w.tags e h)
-
--- A list from its i-th element on
-suc_add_one : (i : ℕ) → suc i + 1 ≡ suc (i + 1)
-suc_add_one i = omega arith
-
-pub drop-some : {X : Type 0} (xs : List X) (i : ℕ) (x : X) → slice_get xs i ≡ Some x → drop i xs ≡ x ∷ drop (i + 1) xs
-drop-some [] i x h = let w : ◌≡◌ {A = ℕ} 0 1 = cc in absurd (omega arith)
-drop-some (y ∷ xs) zero x h = let q : y ≡ x = cc in ap (λ z. z ∷ xs) q
-drop-some (y ∷ xs) (suc i) x h = drop-some xs i x h ∙ ap (λ k. x ∷ drop k (y ∷ xs)) (sym (suc_add_one i))
-
-pub drop-none : {X : Type 0} (xs : List X) (i : ℕ) → slice_get xs i ≡ None → drop i xs ≡ []
-drop-none [] zero h = refl
-drop-none [] (suc i) h = refl
-drop-none (y ∷ xs) zero h = let w : ◌≡◌ {A = ℕ} 0 1 = cc in absurd (omega arith)
-drop-none (y ∷ xs) (suc i) h = drop-none xs i h

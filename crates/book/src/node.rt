@@ -1,10 +1,10 @@
 // What an entry of a loaded book says.
-ghost use Rattle.std.specs.Prelude.{◌≡◌, ◌≤◌, length, map, is_some, IfSome, nat_lt};
+ghost use Rattle.std.specs.Prelude.{◌≡◌, ◌≤◌, length, is_some, IfSome, nat_lt};
 ghost use Rattle.std.specs.List.{slice_get};
 ghost use Rattle.std.specs.Iterator.{YieldsFirst, item_count};
 ghost use Rattle.book.specs.Children.{Children};
 ghost use Rattle.layout.specs.Layout.{entries};
-ghost use Rattle.book.specs.Lists.{as_pair, items, pairs};
+ghost use Rattle.book.specs.Lists.{items, pairs};
 ghost use Rattle.book.specs.Nodes.{node_at, node_of, optional, optional_type};
 
 use crate::book::Book;
@@ -14,7 +14,7 @@ use std::marker::Model;
 use syntax::{BinaryOperator, DeclarationKind, ShortCircuit, UnaryOperator};
 
 // A list of words in the book, which are read in turn.
-#[derive(Clone, Drop)]
+#[derive(Drop)]
 pub struct Items<'a> {
     words: &'a [u16],
 }
@@ -28,11 +28,11 @@ impl<'a> Model for Items<'a> {
 }
 
 impl<'a> Items<'a> {
-    // The words that are left.
-    pub fn as_slice(&self) -> &'a [u16]
-        ensures { result.now ≡ self.now }
+    // The list, to read it and keep it.
+    pub fn iter(&self) -> Items<'a>
+        ensures { result ≡ self.now }
     {
-        &self.words[..]
+        Items { words: self.words }
     }
 
     // How many words are left.
@@ -66,7 +66,7 @@ impl<'a> Iterator for Items<'a> {
 
 // A list of pairs of words in the book, which are read in turn. It is a type of its own, since a list of `T` would show
 // contracts a pair as a list of two words.
-#[derive(Clone, Drop)]
+#[derive(Drop)]
 pub struct Pairs<'a> {
     pairs: &'a [[u16; 2]],
 }
@@ -81,11 +81,11 @@ impl<'a> Model for Pairs<'a> {
 }
 
 impl<'a> Pairs<'a> {
-    // The pairs that are left.
-    pub fn as_slice(&self) -> &'a [[u16; 2]]
-        ensures { map as_pair result.now ≡ self.now }
+    // The list, to read it and keep it.
+    pub fn iter(&self) -> Pairs<'a>
+        ensures { result ≡ self.now }
     {
-        &self.pairs[..]
+        Pairs { pairs: self.pairs }
     }
 
     // How many pairs are left.
@@ -118,7 +118,7 @@ impl<'a> Iterator for Pairs<'a> {
 }
 
 // An entry's construct with its parts; children are entries, and lists are parts of the book's words.
-#[derive(Clone, Drop)]
+#[derive(Drop)]
 pub enum Node<'a> {
     Unit {
         children: Items<'a>,

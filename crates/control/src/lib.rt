@@ -6,7 +6,7 @@ ghost use Rattle.control.specs.Control.{control, control_of, exits, is_statement
 use book::book::Book;
 use book::node::{Items, Node, Pairs};
 
-#[derive(Clone, Drop)]
+#[derive(Drop)]
 pub enum Control<'a> {
     // no statement
     Other,

@@ -1,33 +1,25 @@
 // Whether a book is fit, and what is wrong with each of its entries.
-ghost use Rattle.std.specs.Prelude.{◌≡◌, ◌<◌, ◌≤◌, map, length, is_ok, IfOk, Decides};
+ghost use Rattle.std.specs.Prelude.{◌≡◌, map, is_ok, IfOk, Decides};
 ghost use Rattle.std.specs.List.{range_with_len};
 ghost use Rattle.layout.specs.Layout.{entries};
-ghost use Rattle.behavior.specs.Summaries.{Filled};
 ghost use Rattle.fitness.specs.Fit.{Fit, fault_at, fitness};
 
 use crate::fault::{Unfit, continuing_fault, function_fault};
-use behavior::summary::{Summary, summary_of};
+use behavior::summary::Summaries;
 use book::book::Book;
-use control::{Control, control_at};
+use control::Control;
 use std::alloc::{AllocError, Global};
 
 // The fault of an entry, if it is a function or a continuing that is not fit.
-fn fault_at(book: &Book, known: &mut [Option<Summary>], entry: u16) -> Option<Unfit>
-    requires within { entry < entries book.now.words.now }
-    requires room { entries book.now.words.now ≤ length known.old }
-    requires filled { Filled book.now.words.now known.old }
-    ensures value { result ≡ fault_at book.now.words.now entry }
-    ensures filled { Filled book.now.words.now known.new }
+fn fault_at(summaries: &mut Summaries, entry: u16) -> Option<Unfit>
+    ensures value { result ≡ fault_at summaries.old entry }
+    ensures same { summaries.new ≡ summaries.old }
 {
-    match control_at(book, entry) {
+    match summaries.control(entry) {
         Control::Function(_, typed, body) => {
-            let summary = summary_of(book, known, body);
-            function_fault(entry, typed, body, summary)
+            function_fault(entry, typed, body, summaries.of(body))
         }
-        Control::Continuing(body, _) => {
-            let summary = summary_of(book, known, body);
-            continuing_fault(entry, summary.behavior)
-        }
+        Control::Continuing(body, _) => continuing_fault(entry, summaries.of(body).behavior),
         _ => None,
     }
 }
@@ -37,9 +29,9 @@ pub fn fit(book: &Book) -> Result<(), Unfit>
     ensures value { result ≡ fitness book.now.words.now }
     ensures decides { Decides (is_ok result) (Fit book.now.words.now) }
 {
-    let mut known = [None; 4096];
+    let mut summaries = Summaries::new(*book);
     for e in 0..book.entries() {
-        if let Some(unfit) = fault_at(book, &mut known, e) {
+        if let Some(unfit) = fault_at(&mut summaries, e) {
             return Err(unfit);
         }
     }
@@ -50,10 +42,10 @@ pub fn fit(book: &Book) -> Result<(), Unfit>
 pub fn faults(heap: Global, book: &Book) -> Result<Vec<Option<Unfit>>, AllocError>
     ensures { IfOk result (λ v. v.items ≡ map (fault_at book.now.words.now) (range_with_len 0 (entries book.now.words.now))) }
 {
-    let mut known = [None; 4096];
+    let mut summaries = Summaries::new(*book);
     let mut all = Vec::new(heap);
     for e in 0..book.entries() {
-        all.push(fault_at(book, &mut known, e))?;
+        all.push(fault_at(&mut summaries, e))?;
     }
     Ok(all)
 }

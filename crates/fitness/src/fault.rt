@@ -6,7 +6,7 @@ ghost use Rattle.std.specs.Option.{option_map};
 use behavior::set::Behavior;
 use behavior::summary::Summary;
 
-#[derive(Clone, Copy)]
+#[derive(Clone, Copy, PartialEq, Eq, Debug)]
 pub enum Reason {
     // Break or Continue leaves the body of the function
     BreakOrContinue,
@@ -21,7 +21,7 @@ pub enum Reason {
 }
 
 // A function or continuing that is not fit, and the entry that shows it.
-#[derive(Clone, Copy)]
+#[derive(Clone, Copy, PartialEq, Eq, Debug)]
 pub struct Unfit {
     pub holder: u16,
     pub reason: Reason,
@@ -31,14 +31,11 @@ pub struct Unfit {
 fn at(holder: u16, reason: Reason, entry: Option<u16>) -> Option<Unfit>
     ensures { result ≡ option_map (unfit holder reason) entry }
 {
-    match entry {
-        Some(entry) => Some(Unfit {
-            holder,
-            reason,
-            entry,
-        }),
-        None => None,
-    }
+    entry.map(|entry| Unfit {
+        holder,
+        reason,
+        entry,
+    })
 }
 
 // The fault of a function, from the summary of its body.
@@ -65,24 +62,16 @@ pub(crate) fn function_fault(holder: u16, typed: bool, body: u16, summary: Summa
     } else {
         at(holder, Reason::UnexpectedValue, summary.valued)
     };
-    if wrong.is_some() {
-        wrong
-    } else {
-        at(holder, Reason::LeavingContinuing, summary.leaving)
-    }
+    wrong.or(at(holder, Reason::LeavingContinuing, summary.leaving))
 }
 
 // The fault of a continuing, from the set of its body.
 pub(crate) fn continuing_fault(holder: u16, set: Behavior) -> Option<Unfit>
     ensures { result ≡ continuing_fault holder set }
 {
-    if set.beyond_next() {
-        Some(Unfit {
-            holder,
-            reason: Reason::LeavingContinuing,
-            entry: holder,
-        })
-    } else {
-        None
-    }
+    set.beyond_next().then_some(Unfit {
+        holder,
+        reason: Reason::LeavingContinuing,
+        entry: holder,
+    })
 }

@@ -1,4 +1,6 @@
 // The listing of a book: a line for each entry.
+ghost use Rattle.std.specs.Iterator.{IsFinite};
+
 use book::node::{Items, Node, Pairs, optional};
 use host::literal_number;
 use std::fmt::{Display, Formatter, Result, Write};
@@ -41,19 +43,25 @@ impl Display for Assigned {
 }
 
 // A list in brackets, each of its items written by `each`.
-fn bracketed<T: Copy, W: Write, F: Fn(T, &mut Formatter<W>) -> Result>(
+fn bracketed<W: Write, I: Iterator + Drop, F: Fn(I::Item, &mut Formatter<W>) -> Result>(
     f: &mut Formatter<W>,
-    items: &[T],
+    items: I,
     each: F,
 ) -> Result
-    requires { F.IsAlwaysCallable each }
+where
+    I::Item: Drop,
+    requires can { I.can_next items }
+    requires ends { IsFinite (I.remaining items) }
+    requires called { F.IsAlwaysCallable each }
 {
     f.write_str("[")?;
-    for (i, item) in items.iter().enumerate() {
-        if i > 0 {
+    let mut first = true;
+    for item in items {
+        if !first {
             f.write_str(" ")?;
         }
-        each(*item, f)?;
+        each(item, f)?;
+        first = false;
     }
     f.write_str("]")
 }
@@ -64,7 +72,7 @@ struct List<'a>(&'a Items<'a>);
 
 impl Display for List<'_> {
     fn fmt<W: Write>(&self, f: &mut Formatter<W>) -> Result {
-        bracketed(f, self.0.as_slice(), |entry, f| write!(f, "{entry}"))
+        bracketed(f, self.0.iter(), |entry, f| write!(f, "{entry}"))
     }
 }
 
@@ -74,7 +82,7 @@ struct Clauses<'a>(&'a Pairs<'a>);
 
 impl Display for Clauses<'_> {
     fn fmt<W: Write>(&self, f: &mut Formatter<W>) -> Result {
-        bracketed(f, self.0.as_slice(), |[first, second], f| write!(f, "{first}:{second}"))
+        bracketed(f, self.0.iter(), |(first, second), f| write!(f, "{first}:{second}"))
     }
 }
 
@@ -97,7 +105,7 @@ struct Cases<'a>(&'a Pairs<'a>);
 
 impl Display for Cases<'_> {
     fn fmt<W: Write>(&self, f: &mut Formatter<W>) -> Result {
-        bracketed(f, self.0.as_slice(), |[selector, body], f| write!(f, "{}:{body}", Selector(selector)))
+        bracketed(f, self.0.iter(), |(selector, body), f| write!(f, "{}:{body}", Selector(selector)))
     }
 }
 

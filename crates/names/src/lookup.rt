@@ -7,11 +7,19 @@ use crate::error::NameFault;
 use crate::names::Names;
 use crate::scope::{local_first, root_end};
 
-// The last place of a name, of none if it is not there.
-fn last_named<V: Copy>(bindings: &[Binding<V>], name: u16) -> Option<usize>
+// The last binding of a name.
+fn last_named<V: Copy>(bindings: &[Binding<V>], name: u16) -> Option<Found<V>>
     ensures { IsLastNamed name bindings.now result }
 {
-    bindings.iter().rposition(|binding| binding.name == name)
+    bindings
+        .iter()
+        .enumerate()
+        .rev()
+        .find(|(_, binding)| binding.name == name)
+        .map(|(place, binding)| Found {
+            place,
+            binding: *binding,
+        })
 }
 
 // The newest binding of a name at the places from `low` on.
@@ -22,11 +30,10 @@ pub(crate) fn newest_from<V: Copy>(
 ) -> Option<Found<V>>
     ensures { result ≡ newest_from name low bindings.now }
 {
-    let seen = bindings.get(low..)?;
-    let place = last_named(seen, name)?;
+    let found = last_named(bindings.get(low..)?, name)?;
     Some(Found {
-        place: low + place,
-        binding: seen[place],
+        place: low + found.place,
+        ..found
     })
 }
 

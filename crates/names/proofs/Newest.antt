@@ -4,7 +4,6 @@ use Rattle.std.specs.Option.{option_or}
 use Rattle.std.proofs.lemmas.List.{drop-append-le, length-drop}
 use Rattle.names.specs.Rules.{IsLastNamed, if_named, newest, newest_from}
 use Rattle.names.specs.declared.binding.Binding.{Binding}
-use Rattle.names.specs.declared.binding.Found.{Found}
 
 or_none : {A : Type 0} (x : Option A) → option_or x None ≡ x
 or_none None = refl
@@ -43,17 +42,14 @@ module _ {V : Type 0} (name : ℕ) where
       ∙ unnamed place b (never 0 b (omega arith))
 
   -- where it stands at a place, and behind that nowhere
-  last_at : (place : ℕ) (bs : List (Binding V)) (i : ℕ) (b : Binding V) → IsLastNamed name bs (Some (record { place = i; binding = b })) → newest name place bs ≡ Some (record { place = place + i; binding = b })
-  last_at place [] i b last = absurd (omega (arith, last.0))
-  last_at place (x ∷ bs) zero b last =
-      ap (λ o. option_or o (if_named name place x)) (newest-none (place + 1) bs (λ k d h. last.3 (suc k) d (omega arith) (omega arith)))
-      ∙ ap (if_named name place) (last.1 b)
-      ∙ named place b last.2
+  pub newest-last : (place : ℕ) (bs : List (Binding V)) (i : ℕ) (b : Binding V) → IsLastNamed name bs (Some i) → b ≡ get_or bs i b → newest name place bs ≡ Some (record { place = place + i; binding = b })
+  newest-last place [] i b last read = absurd (omega (arith, last.0))
+  newest-last place (x ∷ bs) zero b last read =
+      ap (λ o. option_or o (if_named name place x)) (newest-none (place + 1) bs (λ k d h. last.2 (suc k) d (omega arith) (omega arith)))
+      ∙ ap (if_named name place) (sym read)
+      ∙ named place b (ap (λ y. y.name) read ∙ last.1 b)
       ∙ ap (λ k. Some (record { place = k; binding = b })) (sym (add-zero place))
-  last_at place (x ∷ bs) (suc i) b last =
+  newest-last place (x ∷ bs) (suc i) b last read =
       ap (λ o. option_or o (if_named name place x))
-      (last_at (place + 1) bs i b (omega (arith, last.0), last.1, last.2, λ k d h l. last.3 (suc k) d (omega arith) (omega arith)))
+      (newest-last (place + 1) bs i b (omega (arith, last.0), last.1, λ k d h l. last.2 (suc k) d (omega arith) (omega arith)) read)
       ∙ ap (λ k. Some (record { place = k; binding = b })) (let p : place + 1 + i ≡ place + suc i = omega arith in p)
-
-  pub newest-last : (place : ℕ) (bs : List (Binding V)) (f : Found V) → IsLastNamed name bs (Some f) → newest name place bs ≡ Some (record { place = place + f.place; binding = f.binding })
-  newest-last place bs f last = last_at place bs f.place f.binding last

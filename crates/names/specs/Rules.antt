@@ -58,12 +58,12 @@ module _ {V : Type 0} where
   abbrev pub if_named : ℕ → ℕ → Binding V → Option (Found V)
   if_named name place b = cond (b.name == name) (Some (record { place = place; binding = b })) None
 
-  -- The binding of a name at a place behind which the name does not stand again, or that it stands nowhere.
-  abbrev pub IsLastNamed : ℕ → List (Binding V) → Option (Found V) → Type 0
+  -- A place of a name behind which the name does not stand again, or that it stands nowhere.
+  abbrev pub IsLastNamed : ℕ → List (Binding V) → Option ℕ → Type 0
   IsLastNamed name bs o =
       MatchOption o ((k : ℕ) (d : Binding V) → k < length bs → (slice_index_or bs k d).name ≢ name)
-      (λ f. (f.place < length bs) × ((d : Binding V) → slice_index_or bs f.place d ≡ f.binding) × (f.binding.name ≡ name)
-      × ((k : ℕ) (d : Binding V) → f.place < k → k < length bs → (slice_index_or bs k d).name ≢ name))
+      (λ i. (i < length bs) × ((d : Binding V) → (slice_index_or bs i d).name ≡ name)
+      × ((k : ℕ) (d : Binding V) → i < k → k < length bs → (slice_index_or bs k d).name ≢ name))
 
   -- The newest binding of a name in a list whose first stands at the place.
   abbrev pub newest : ℕ → ℕ → List (Binding V) → Option (Found V)

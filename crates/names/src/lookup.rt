@@ -7,19 +7,15 @@ use crate::error::NameFault;
 use crate::names::Names;
 use crate::scope::{local_first, root_end};
 
-// The last binding of a name.
-fn last_named<V: Copy>(bindings: &[Binding<V>], name: u16) -> Option<Found<V>>
+// The last place of a name, counted from the end: `rposition` takes longer.
+fn last_named<V: Copy>(bindings: &[Binding<V>], name: u16) -> Option<usize>
     ensures { IsLastNamed name bindings.now result }
 {
-    bindings
+    let behind = bindings
         .iter()
-        .enumerate()
         .rev()
-        .find(|(_, binding)| binding.name == name)
-        .map(|(place, binding)| Found {
-            place,
-            binding: *binding,
-        })
+        .position(|binding| binding.name == name)?;
+    Some(bindings.len() - 1 - behind)
 }
 
 // The newest binding of a name at the places from `low` on.
@@ -30,10 +26,11 @@ pub(crate) fn newest_from<V: Copy>(
 ) -> Option<Found<V>>
     ensures { result ≡ newest_from name low bindings.now }
 {
-    let found = last_named(bindings.get(low..)?, name)?;
+    let seen = bindings.get(low..)?;
+    let place = last_named(seen, name)?;
     Some(Found {
-        place: low + found.place,
-        ..found
+        place: low + place,
+        binding: seen[place],
     })
 }
 
@@ -43,10 +40,11 @@ impl<V: Copy> Names<'_, V> {
         ensures { result ≡ lookup name self.now }
     {
         let bindings = self.bindings.as_slice();
+        if let Some(found) = newest_from(bindings, self.own, name) {
+            return Ok(found);
+        }
         let root = &bindings[..root_end(self.open(), bindings.len())];
-        newest_from(bindings, self.own, name)
-            .or_else(|| newest_from(root, 0, name))
-            .ok_or(NameFault::UnknownDecl)
+        newest_from(root, 0, name).ok_or(NameFault::UnknownDecl)
     }
 
     // Whether the innermost scope, or the parent of a transparent one, has the name already.

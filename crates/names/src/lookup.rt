@@ -1,6 +1,7 @@
 // How a name is found.
 ghost use Rattle.std.specs.Prelude.{◌≡◌};
 ghost use Rattle.names.specs.Rules.{IsLastNamed, duplicate, lookup, newest_from};
+ghost use Rattle.names.specs.State.{Kept};
 
 use crate::binding::{Binding, Found};
 use crate::error::NameFault;
@@ -37,7 +38,8 @@ pub(crate) fn newest_from<V: Copy>(
 impl<V: Copy> Names<'_, V> {
     // The newest binding of a name; for a callee the newest of its own, and then of the root's.
     pub fn lookup(&self, name: u16) -> Result<Found<V>, NameFault>
-        ensures { result ≡ lookup name self.now }
+        ensures answer { result ≡ lookup name self.now }
+        ensures kept { Kept V self.now }
     {
         let bindings = self.bindings.as_slice();
         if let Some(found) = newest_from(bindings, self.own, name) {

@@ -2,7 +2,7 @@
 use Rattle.std.proofs.Common.{◌≡◌, ℕ, zero, suc, ◌+◌, ◌<◌, ◌≤◌, ◌≢◌, cond, List, [], ◌∷◌, ◌++◌, length, get_or, drop, Some, None, Option, sym, refl, ap, ◌∙◌, add-zero, arith, eq-eqb, ne_eqb}
 use Rattle.std.specs.Option.{option_or}
 use Rattle.std.proofs.lemmas.List.{drop-append-le, length-drop}
-use Rattle.names.specs.Rules.{if_named, newest, newest_from}
+use Rattle.names.specs.Rules.{IsLastNamed, if_named, newest, newest_from}
 use Rattle.names.specs.declared.binding.Binding.{Binding}
 
 or_none : {A : Type 0} (x : Option A) → option_or x None ≡ x
@@ -42,13 +42,14 @@ module _ {V : Type 0} (name : ℕ) where
       ∙ unnamed place b (never 0 b (omega arith))
 
   -- where it stands at a place, and behind that nowhere
-  pub newest-last : (place : ℕ) (bs : List (Binding V)) (i : ℕ) (b : Binding V) → i < length bs → b ≡ get_or bs i b → b.name ≡ name → ((k : ℕ) (d : Binding V) → i < k → k < length bs → (get_or bs k d).name ≢ name) → newest name place bs ≡ Some (record { place = place + i; binding = b })
-  newest-last place [] i b within read e behind = absurd (omega arith)
-  newest-last place (x ∷ bs) zero b within read e behind =
-      ap (λ o. option_or o (if_named name place x)) (newest-none (place + 1) bs (λ k d h. behind (suc k) d (omega arith) (omega arith)))
+  pub newest-last : (place : ℕ) (bs : List (Binding V)) (i : ℕ) (b : Binding V) → IsLastNamed name bs (Some i) → b ≡ get_or bs i b → newest name place bs ≡ Some (record { place = place + i; binding = b })
+  newest-last place [] i b last read = absurd (omega (arith, last.0))
+  newest-last place (x ∷ bs) zero b last read =
+      ap (λ o. option_or o (if_named name place x)) (newest-none (place + 1) bs (λ k d h. last.2 (suc k) d (omega arith) (omega arith)))
       ∙ ap (if_named name place) (sym read)
-      ∙ named place b e
+      ∙ named place b (ap (λ y. y.name) read ∙ last.1 b)
       ∙ ap (λ k. Some (record { place = k; binding = b })) (sym (add-zero place))
-  newest-last place (x ∷ bs) (suc i) b within read e behind =
-      ap (λ o. option_or o (if_named name place x)) (newest-last (place + 1) bs i b (omega arith) read e (λ k d h l. behind (suc k) d (omega arith) (omega arith)))
+  newest-last place (x ∷ bs) (suc i) b last read =
+      ap (λ o. option_or o (if_named name place x))
+      (newest-last (place + 1) bs i b (omega (arith, last.0), last.1, λ k d h l. last.2 (suc k) d (omega arith) (omega arith)) read)
       ∙ ap (λ k. Some (record { place = k; binding = b })) (let p : place + 1 + i ≡ place + suc i = omega arith in p)

@@ -39,7 +39,8 @@ impl<'a, T: Copy> LentVec<'a, T> {
     }
 
     pub(crate) fn as_slice(&self) -> &[T]
-        ensures { result.now ≡ self.now.items }
+        ensures items { result.now ≡ self.now.items }
+        ensures within { length self.now.items ≤ self.now.capacity }
     {
         &self.slots[..self.len]
     }

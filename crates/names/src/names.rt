@@ -15,7 +15,7 @@ pub const MOST_SCOPES: usize = 257;
 pub struct Names<'a, V> {
     pub(crate) bindings: LentVec<'a, Binding<V>>,
     // a plain table inside, with no slice to lend: one record is written on opening and on closing
-    pub(crate) scopes: [Scope; 257],
+    pub(crate) scopes: [Scope; MOST_SCOPES],
     pub(crate) depth: usize,
     // where the innermost call's names begin
     pub(crate) own: usize,

@@ -17,7 +17,7 @@ impl<'a, V: Copy> Names<'a, V> {
         let (table, _) = table.split_at_mut(usable);
         Names {
             bindings: LentVec::new(table),
-            scopes: [Scope::default(); 257],
+            scopes: [Scope::default(); MOST_SCOPES],
             depth: 0,
             own: 0,
         }

@@ -1,4 +1,4 @@
-use Rattle.std.proofs.Common.{◌≡◌, drop, sym, ap, ◌∙◌, rules, arith}
+use Rattle.std.proofs.Common.{◌≡◌, drop, sym, ap, ◌∙◌, arith}
 use Rattle.std.proofs.lemmas.Grind.{common_steps}
 use Rattle.names.specs.Rules.{newest}
 use Rattle.names.proofs.Newest.{newest-last, newest-none}
@@ -6,7 +6,7 @@ use Rattle.names.proofs.lookup.newest_from.Goals as goal
 
 pub returns-in_err-place : goal.returns-in_err-place
 returns-in_err-place g c =
-    let e : c.in_ok-seen.seen.now ≡ drop c.args.low c.args.bindings.now = first_of (search rules, grind (arith, common_steps)) in
+    let e : c.in_ok-seen.seen.now ≡ drop c.args.low c.args.bindings.now = grind (arith, common_steps) in
     c.from_residual-in_err-place.ensures
     ∙ sym (newest-none c.args.name c.args.low c.in_ok-seen.seen.now c.in_err-place.ensures)
     ∙ ap (newest c.args.name c.args.low) e
@@ -14,6 +14,5 @@ returns-in_err-place g c =
 pub returns : goal.returns
 returns g c =
     let r = c.index-seen-place in
-    let k = c.in_ok-place.ensures in
-    let e : c.in_ok-seen.seen.now ≡ drop c.args.low c.args.bindings.now = first_of (search rules, grind (arith, common_steps)) in
-    sym (newest-last c.args.name c.args.low c.in_ok-seen.seen.now c.in_ok-place.place r.result k.0 r.is (ap (λ b. b.name) r.is ∙ k.1 r.result) k.2) ∙ ap (newest c.args.name c.args.low) e
+    let e : c.in_ok-seen.seen.now ≡ drop c.args.low c.args.bindings.now = grind (arith, common_steps) in
+    sym (newest-last c.args.name c.args.low c.in_ok-seen.seen.now c.in_ok-place.place r.result c.in_ok-place.ensures r.is) ∙ ap (newest c.args.name c.args.low) e

@@ -1,4 +1,4 @@
-use Rattle.std.proofs.Common.{◌≤◌, length, subst, arith}
+use Rattle.std.proofs.Common.{length, subst, arith}
 use Rattle.std.proofs.lemmas.Grind.{common_steps}
 use Rattle.names.specs.State.{InOrder}
 use Rattle.names.proofs.Opened.{root_end_le}
@@ -8,5 +8,4 @@ pub slice_bounds-root-end : goal.slice_bounds-root-end
 slice_bounds-root-end g c =
     let s = c.args.self.now in
     let e = root_end_le s.scopes (length s.bindings) (subst InOrder c.self.view_is c.self.invariant.in_order) in
-    let h : c.root_end.result ≤ length c.as_slice-bindings.result.now = grind (arith, common_steps) in
     grind (arith, common_steps)

@@ -1,10 +1,9 @@
-use Rattle.std.proofs.Common.{sym, ◌∙◌, arith}
+use Rattle.std.proofs.Common.{arith}
 use Rattle.std.proofs.lemmas.Grind.{common_steps}
 use Rattle.names.proofs.Writing.{write_one}
 use Rattle.names.proofs.names.Names.write.Goals as goal
 
 pub returns-clause-one_value : goal.returns-clause-one_value
 returns-clause-one_value g c =
-    let b = c.in_ok-binding.binding in
-    write_one (g.H.Values.means c.args.host.now) c.args.place c.args.self.now _ b c.args.value (grind (arith, common_steps))
-    (sym c.variable.ensures ∙ c.in_ok-binding.ensures.ok_part) (sym c.type_of.ensures ∙ c.if-type_of.false ∙ c.type_of-2.ensures)
+    write_one (g.H.Values.means c.args.host.now) c.args.place c.args.self.now _ c.in_ok-binding.binding c.args.value (grind (arith, common_steps))
+    (cc (c.variable.ensures, c.in_ok-binding.ensures.ok_part)) (cc (c.type_of.ensures, c.if-type_of.false, c.type_of-2.ensures))

@@ -1,12 +1,11 @@
 -- Exact results in 128 bits, of numbers of 64 bits.
-use Rattle.std.proofs.Common.{◌≡◌, ℕ, suc, ◌/◌, ◌≤◌, true, ◌≢◌, ℤ, pos, negsuc, neg_ℤ, nat_abs, None, Ok, ◌+ℤ◌, ◌-ℤ◌, ◌*ℤ◌, Some, refl, ap, subst, ◌∙◌, div-le_self, arith, w64, SFits, to_z, of_z}
+use Rattle.std.proofs.Common.{◌≡◌, ◌≤◌, true, ◌≢◌, ℤ, pos, nat_abs, None, Ok, ◌+ℤ◌, ◌-ℤ◌, ◌*ℤ◌, Some, refl, ap, subst, ◌∙◌, div-le_self, arith, w64, SFits, to_z, of_z}
 use native.Mathlib.Nat.{mod-le}
 use lib.Signed.{quot_z, rem_z}
 use mir.Syntax.{w128}
 use Rattle.std.proofs.lemmas.Int.{ints, to_z-of_z}
 use Rattle.std.proofs.lemmas.Bool.Decides.{nat_tests}
 use Rattle.scalar_value.specs.declared.ScalarType.{ScalarType}
-use Rattle.scalar_value.specs.declared.ScalarType.TheVariants.{Bool as BoolType, AbstractInt as AbstractIntType, I32 as I32Type, U32 as U32Type}
 use Rattle.arithmetic.specs.declared.Pair.{Pair}
 use borrow.Author.Numbers.{signed_product}
 use Rattle.scalar_value.specs.declared.Scalar.{Scalar}
@@ -48,27 +47,14 @@ product_fits p =
     subst (λ (x : ℤ). SFits w128 (x *ℤ p.n)) (same p.m _ (m_fits p) refl)
     (subst (λ (y : ℤ). SFits w128 (to_z w128 (of_z w128 (to_z w64 (of_z w64 p.m))) *ℤ y)) (same p.n _ (n_fits p) refl) bound)
 
-abs_neg : (n : ℕ) → nat_abs (neg_ℤ (pos n)) ≡ n
-abs_neg n = omega (arith, ints)
-
 quot_abs : (m n : ℤ) → nat_abs (quot_z m n) ≤ nat_abs m
-quot_abs (pos a) (pos b) = div-le_self a b
-quot_abs (pos a) (negsuc b) = omega (arith, abs_neg (a / suc b), div-le_self a (suc b))
-quot_abs (negsuc a) (pos b) = omega (arith, abs_neg (suc a / b), div-le_self (suc a) b)
-quot_abs (negsuc a) (negsuc b) = div-le_self (suc a) (suc b)
+quot_abs m n = let e = div-le_self (nat_abs m) (nat_abs n) in grind (arith, ints)
 
 pub quot_fits : (p : Pair) → SFits w128 (quot_z p.m p.n)
 quot_fits p = omega (arith, ints, quot_abs p.m p.n, m_fits p)
 
 pub rem_inside : (t : ScalarType) (m n : ℤ) → inside t m ≡ true → inside t (rem_z m n) ≡ true
-rem_inside BoolType (pos a) n h = let e = mod-le a (nat_abs n) in grind (arith, nat_tests)
-rem_inside AbstractIntType (pos a) n h = let e = mod-le a (nat_abs n) in grind (arith, nat_tests)
-rem_inside I32Type (pos a) n h = let e = mod-le a (nat_abs n) in grind (arith, nat_tests)
-rem_inside U32Type (pos a) n h = let e = mod-le a (nat_abs n) in grind (arith, nat_tests)
-rem_inside BoolType (negsuc a) n h = absurd (grind (arith, nat_tests))
-rem_inside U32Type (negsuc a) n h = absurd (grind (arith, nat_tests))
-rem_inside AbstractIntType (negsuc a) n h = let e = mod-le (suc a) (nat_abs n) in grind (arith, nat_tests, ints)
-rem_inside I32Type (negsuc a) n h = let e = mod-le (suc a) (nat_abs n) in grind (arith, nat_tests, ints)
+rem_inside t m n h = let e = mod-le (nat_abs m) (nat_abs n) in grind (arith, nat_tests, ints)
 
 pub quotient-outside : (stage : Stage) (t : ScalarType) (m n : ℤ) → n ≢ pos 0 → within t (quot_z m n) ≡ None → quotient stage t m n ≡ unless NegOverflow stage t (scalar t m)
 quotient-outside stage t m n h e = grind (arith, ints, nat_tests)

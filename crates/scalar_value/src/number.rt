@@ -38,16 +38,6 @@ impl From<ScalarType> for u16 {
 }
 
 impl ScalarType {
-    fn lowest(self) -> i128
-        ensures { result ≡ lowest self }
-    {
-        match self {
-            ScalarType::Bool | ScalarType::U32 => 0,
-            ScalarType::AbstractInt => -9223372036854775808,
-            ScalarType::I32 => -2147483648,
-        }
-    }
-
     fn highest(self) -> i128
         ensures { result ≡ highest self }
     {
@@ -115,10 +105,12 @@ impl From<Scalar> for i64 {
 pub fn within_type(t: ScalarType, z: i128) -> Option<Scalar>
     ensures { result ≡ within t z }
 {
-    if z < t.lowest() || t.highest() < z {
-        return None;
+    match t {
+        ScalarType::Bool => (z == 0 || z == 1).then_some(Scalar::Bool(z == 1)),
+        ScalarType::AbstractInt => i64::try_from(z).ok().map(Scalar::AbstractInt),
+        ScalarType::I32 => i32::try_from(z).ok().map(Scalar::I32),
+        ScalarType::U32 => u32::try_from(z).ok().map(Scalar::U32),
     }
-    Some(of_inside(t, z))
 }
 
 // The scalar of a type with the number z, wrapped into the type.
@@ -126,17 +118,5 @@ pub fn wrap_into(t: ScalarType, z: i128) -> Scalar
     ensures value { result ≡ wrapped t z }
     ensures keeps { inside t z ≡ true → result ≡ scalar t z }
 {
-    of_inside(t, t.wrap(z))
-}
-
-fn of_inside(t: ScalarType, z: i128) -> Scalar
-    requires { inside t z ≡ true }
-    ensures { result ≡ scalar t z }
-{
-    match t {
-        ScalarType::Bool => Scalar::Bool(z != 0),
-        ScalarType::AbstractInt => Scalar::AbstractInt(z as i64),
-        ScalarType::I32 => Scalar::I32(z as i32),
-        ScalarType::U32 => Scalar::U32(z as u32),
-    }
+    within_type(t, t.wrap(z)).unwrap()
 }

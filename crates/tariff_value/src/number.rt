@@ -1,6 +1,6 @@
 // Every value as a number of its type, and back.
 ghost use Rattle.std.specs.Prelude.{◌≡◌, ok_or};
-ghost use Rattle.tariff_value.specs.Types.{type_number, numbered_type, highest, type_of, number_of, value, within};
+ghost use Rattle.tariff_value.specs.Types.{type_number, numbered_type, type_of, number_of, value, within};
 
 use crate::{TariffType, TariffValue};
 use syntax::UnknownNumber;
@@ -31,17 +31,6 @@ impl From<TariffType> for u16 {
             TariffType::Count => 4,
             TariffType::Gram => 5,
             TariffType::Cent => 6,
-        }
-    }
-}
-
-impl TariffType {
-    fn highest(self) -> u32
-        ensures { result ≡ highest self }
-    {
-        match self {
-            TariffType::Flag => 1,
-            TariffType::Count | TariffType::Gram | TariffType::Cent => 4294967295,
         }
     }
 }
@@ -87,8 +76,8 @@ pub fn of_type(t: TariffType, n: u32) -> TariffValue
 pub fn within_type(t: TariffType, n: u64) -> Option<TariffValue>
     ensures { result ≡ within t n }
 {
-    if n > u64::from(t.highest()) {
-        return None;
+    match t {
+        TariffType::Flag => (n < 2).then_some(TariffValue::Flag(n == 1)),
+        _ => u32::try_from(n).ok().map(|n| of_type(t, n)),
     }
-    Some(of_type(t, n as u32))
 }

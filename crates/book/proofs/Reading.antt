@@ -5,10 +5,10 @@ use Rattle.std.specs.List.{slice_get}
 use Rattle.std.proofs.lemmas.Option.{slice_get-get_or, slice_get_past}
 use Rattle.std.proofs.lemmas.Bool.{and_parts, cond_both, cond-false, cond-true, leb-true, le-ltb, lt-ltb, ltb-false, ltb-true}
 use Rattle.syntax.specs.Numbers.{binary_operators, declaration_kinds, short_circuits, unary_operators}
-use Rattle.layout.specs.Layout.{construct, entries, field, place}
+use Rattle.layout.specs.Layout.{construct, entries, place}
 use Rattle.book.specs.Nodes.{assignment_node, binary_node, decode, node_at}
 use Rattle.book.specs.Lists.{twos}
-use Rattle.shape.specs.Shapes.{fields_of, fits, shape_of}
+use Rattle.shape.specs.Shapes.{fits, layout_of, shape_of}
 use Rattle.layout.specs.WellFormed.{EachField, WellFormed}
 use Rattle.book.specs.declared.node.Node.{Node}
 use Rattle.book.specs.declared.node.Node.TheVariants as N
@@ -88,24 +88,22 @@ some-binary n l r h =
 
 module _ (ws : List ℕ) (p : ℕ) (fitting : EachField (λ f w. fits f w ≡ true) ws p) where
   first_field :
-      (c : Construct) (least most : ℕ) → construct ws p ≡ Some c → 0 < (shape_of (Some c)).head
-      → get_or (fields_of (Some c)) 0 F.Absent ≡ F.Number least most → get_or ws (p + 1) 0 ≤ most
-  first_field c least most is some number =
-      let h = fitting.in_head 0 (subst (λ (o : Option Construct). 0 < (shape_of o).head) (sym is) some) in
-      let f : field ws p 0 ≡ F.Number least most = ap (λ (o : Option Construct). get_or (fields_of o) 0 F.Absent) is ∙ number in
+      (c : Construct) (least most : ℕ) → construct ws p ≡ Some c
+      → slice_get (layout_of c).head 0 ≡ Some (F.Number least most) → get_or ws (p + 1) 0 ≤ most
+  first_field c least most is number =
+      let h = fitting.in_head 0 (F.Number least most) (subst (λ (o : Option Construct). slice_get (shape_of o).head 0 ≡ Some (F.Number least most)) (sym is) number) in
       let e : p + 1 + 0 ≡ p + 1 = omega arith in
-      let g : (leb least (get_or ws (p + 1) 0) && leb (get_or ws (p + 1) 0) most) ≡ true = sym (ap (λ x. fits x (get_or ws (p + 1 + 0) 0)) f ∙ ap (λ k. fits (F.Number least most) (get_or ws k 0)) e) ∙ h in
+      let g : (leb least (get_or ws (p + 1) 0) && leb (get_or ws (p + 1) 0) most) ≡ true = sym (ap (λ k. fits (F.Number least most) (get_or ws k 0)) e) ∙ h in
       leb-true (get_or ws (p + 1) 0) most (and_parts (leb least (get_or ws (p + 1) 0)) _ g).1
 
   every_node : (o : Option Construct) → construct ws p ≡ o → is_some o ≡ true → is_some (decode o ws p) ≡ true
-  unfolding shape_of fields_of
   every_node None is h = h
   every_node (Some UnitEntry) is h = refl
   every_node (Some Empty) is h = refl
   every_node (Some Compound) is h = refl
   every_node (Some Assignment) is h =
       some_assignment (get_or ws (p + 1) 0) (get_or ws (p + 2) 0) (get_or ws (p + 3) 0)
-      (first_field Assignment 0 8 is (omega arith) refl)
+      (first_field Assignment 0 8 is refl)
   every_node (Some Increment) is h = refl
   every_node (Some Decrement) is h = refl
   every_node (Some If) is h = refl
@@ -120,16 +118,16 @@ module _ (ws : List ℕ) (p : ℕ) (fitting : EachField (λ f w. fits f w ≡ tr
   every_node (Some CallStatement) is h = refl
   every_node (Some ConstAssert) is h = refl
   every_node (Some Declaration) is h =
-      let b = first_field Declaration 0 2 is (omega arith) refl in
+      let b = first_field Declaration 0 2 is refl in
       nth_some _ declaration_kinds (get_or ws (p + 1) 0) (omega arith)
   every_node (Some Continuing) is h = refl
   every_node (Some Literal) is h = refl
   every_node (Some Parenthesized) is h = refl
   every_node (Some Unary) is h =
-      let b = first_field Unary 0 2 is (omega arith) refl in
+      let b = first_field Unary 0 2 is refl in
       nth_some _ unary_operators (get_or ws (p + 1) 0) (omega arith)
   every_node (Some Binary) is h =
-      some-binary (get_or ws (p + 1) 0) (get_or ws (p + 2) 0) (get_or ws (p + 3) 0) (first_field Binary 0 15 is (omega arith) refl)
+      some-binary (get_or ws (p + 1) 0) (get_or ws (p + 2) 0) (get_or ws (p + 3) 0) (first_field Binary 0 15 is refl)
   every_node (Some Name) is h = refl
   every_node (Some Call) is h = refl
   every_node (Some Function) is h = refl

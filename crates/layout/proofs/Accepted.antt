@@ -1,108 +1,100 @@
 -- The words that the walk accepts are the well formed ones.
-use Rattle.std.proofs.Common.{◌≡◌, ℕ, zero, suc, ◌+◌, ◌-◌, ◌*◌, ◌<◌, Bool, true, false, cond, not, List, length, get_or, is_some, is_ok, Some, None, Decides, Option, Result, sym, refl, ap, ◌∙◌, ⊎_elim, mul-zero, mul-one, mul-add, arith}
+use Rattle.std.proofs.Common.{◌≡◌, ℕ, zero, suc, ◌+◌, ◌-◌, ◌*◌, ◌<◌, Bool, true, false, cond, not, List, [], ◌∷◌, length, get_or, is_some, is_ok, Some, None, Decides, Option, Result, sym, refl, ap, ◌∙◌, ⊎_elim, mul-zero, mul-one, mul-add, arith}
+use Rattle.std.specs.List.{slice_get}
+use Rattle.std.proofs.lemmas.Option.{none-some, same_Some}
 use Rattle.std.proofs.lemmas.Bool.{and_from, and_parts, cases_Bool, cases_eq, ltb-false, true≢false}
 use Rattle.layout.specs.First.{or_else}
-use Rattle.layout.specs.Layout.{body_passes, end, entries, field, groups, groups_from, groups_pass, place, run_passes, shape, tail, tail_from}
+use Rattle.layout.specs.Layout.{body_passes, end, entries, groups, groups_from, groups_pass, place, run_passes, shape, tail_from}
 use Rattle.shape.specs.Shapes.{fits}
 use Rattle.layout.specs.Verdict.{accepted, answer, at, child_fault, child_fits, first, layout_fault, left_over, refusal, sized, verdict}
 use Rattle.layout.specs.WellFormed.{EachField, WellFormed}
 use Rattle.layout.specs.declared.error.BookError.{BookError}
 use Rattle.layout.specs.declared.error.BookFault.TheVariants.{BadLength, WrongChild}
 use Rattle.shape.specs.declared.Field.{Field}
-use Rattle.layout.proofs.Bodies.{head-fits}
+use Rattle.layout.proofs.Bodies.{known_end}
 use Rattle.layout.proofs.Firsts.{neither}
 use Rattle.layout.proofs.Refusals.{Laid, child_fine, each_first, first_each, laid, none_left, refused-children, refused-next, refused-sized, sizes, unlaid, unsized}
 
-module _ (t : Field → ℕ → Bool) (ws : List ℕ) (p : ℕ) where
-  -- a run passes where each of its fields does
-  run_each : (n i q k : ℕ) → run_passes t ws p i q n ≡ true → k < n → t (field ws p (i + k)) (get_or ws (q + k) 0) ≡ true
+module _ (t : Field → ℕ → Bool) (ws : List ℕ) where
+  -- a run of fields passes where each of them does
+  run_each : (fs : List Field) (q k : ℕ) (f : Field) → run_passes t fs ws q ≡ true → slice_get fs k ≡ Some f → t f (get_or ws (q + k) 0) ≡ true
   unfolding run_passes
-  run_each zero i q k h l = absurd (omega arith)
-  run_each (suc n) i q k h l =
-      let a = and_parts (t (field ws p i) (get_or ws q 0)) (run_passes t ws p (i + 1) (q + 1) n) h in
-      ⊎_elim
-      (λ z.
-      let u : i + k ≡ i = omega arith in
-      let v : q + k ≡ q = omega arith in
-      ap (λ x. t (field ws p x) (get_or ws (q + k) 0)) u ∙ ap (λ x. t (field ws p i) (get_or ws x 0)) v ∙ a.0)
-      (λ nz.
-      let u : i + k ≡ i + 1 + (k - 1) = omega arith in
-      let v : q + k ≡ q + 1 + (k - 1) = omega arith in
-      ap (λ x. t (field ws p x) (get_or ws (q + k) 0)) u
-      ∙ ap (λ x. t (field ws p (i + 1 + (k - 1))) (get_or ws x 0)) v
-      ∙ run_each n (i + 1) (q + 1) (k - 1) a.1 (omega arith))
-      (cases_eq k 0)
-
-  each_run : (n i q : ℕ) → ((k : ℕ) → k < n → t (field ws p (i + k)) (get_or ws (q + k) 0) ≡ true) → run_passes t ws p i q n ≡ true
-  unfolding run_passes
-  each_run zero i q h = refl
-  each_run (suc n) i q h =
-      let u : i + 0 ≡ i = omega arith in
+  run_each [] q k f h is = absurd (none-some f is)
+  run_each (x ∷ fs) q zero f h is =
+      let a = and_parts (t x (get_or ws q 0)) (run_passes t fs ws (q + 1)) h in
       let v : q + 0 ≡ q = omega arith in
-      and_from (t (field ws p i) (get_or ws q 0)) _
-      (sym (ap (λ x. t (field ws p x) (get_or ws (q + 0) 0)) u ∙ ap (λ x. t (field ws p i) (get_or ws x 0)) v) ∙ h 0 (omega arith))
-      (each_run n (i + 1) (q + 1)
-      (λ k l.
-      let a : i + 1 + k ≡ i + (k + 1) = omega arith in
-      let b : q + 1 + k ≡ q + (k + 1) = omega arith in
-      ap (λ x. t (field ws p x) (get_or ws (q + 1 + k) 0)) a ∙ ap (λ x. t (field ws p (i + (k + 1))) (get_or ws x 0)) b ∙ h (k + 1) (omega arith)))
+      ap (λ i. t f (get_or ws i 0)) v ∙ ap (λ y. t y (get_or ws q 0)) (sym (same_Some x f is)) ∙ a.0
+  run_each (x ∷ fs) q (suc k) f h is =
+      let a = and_parts (t x (get_or ws q 0)) (run_passes t fs ws (q + 1)) h in
+      let v : q + suc k ≡ q + 1 + k = omega arith in
+      ap (λ i. t f (get_or ws i 0)) v ∙ run_each fs (q + 1) k f a.1 is
+
+  each_run : (fs : List Field) (q : ℕ) → ((k : ℕ) (f : Field) → slice_get fs k ≡ Some f → t f (get_or ws (q + k) 0) ≡ true) → run_passes t fs ws q ≡ true
+  unfolding run_passes
+  each_run [] q h = refl
+  each_run (x ∷ fs) q h =
+      let v : q + 0 ≡ q = omega arith in
+      and_from (t x (get_or ws q 0)) _ (sym (ap (λ i. t x (get_or ws i 0)) v) ∙ h 0 x refl)
+      (each_run fs (q + 1)
+      (λ k f is.
+      let u : q + 1 + k ≡ q + suc k = omega arith in
+      ap (λ i. t f (get_or ws i 0)) u ∙ h (suc k) f is))
 
   -- groups pass where each of their fields does
-  group_each : (n q j i : ℕ) → groups_pass t ws p q n ≡ true → j < n → i < (shape ws p).group → t (field ws p ((shape ws p).head + i)) (get_or ws (q + (shape ws p).group * j + i) 0) ≡ true
+  group_each : (fs : List Field) (n q j i : ℕ) (f : Field) → groups_pass t fs ws q n ≡ true → j < n → slice_get fs i ≡ Some f → t f (get_or ws (q + length fs * j + i) 0) ≡ true
   unfolding groups_pass
-  group_each zero q j i h l m = absurd (omega arith)
-  group_each (suc n) q j i h l m =
-      let g = (shape ws p).group in
-      let a = and_parts (run_passes t ws p (shape ws p).head q g) (groups_pass t ws p (q + g) n) h in
+  group_each fs zero q j i f h l is = absurd (omega arith)
+  group_each fs (suc n) q j i f h l is =
+      let g = length fs in
+      let a = and_parts (run_passes t fs ws q) (groups_pass t fs ws (q + g) n) h in
       ⊎_elim
       (λ z.
       let o : g * j ≡ 0 = ap (λ x. g * x) z ∙ mul-zero g in
       let v : q + g * j + i ≡ q + i = omega arith in
-      ap (λ x. t (field ws p ((shape ws p).head + i)) (get_or ws x 0)) v ∙ run_each g (shape ws p).head q i a.0 m)
+      ap (λ x. t f (get_or ws x 0)) v ∙ run_each fs q i f a.0 is)
       (λ nz.
       let e : j ≡ 1 + (j - 1) = omega arith in
       let o : g * j ≡ g + g * (j - 1) = ap (λ x. g * x) e ∙ mul-add g 1 (j - 1) ∙ ap (λ x. x + g * (j - 1)) (mul-one g) in
       let v : q + g * j + i ≡ q + g + g * (j - 1) + i = omega arith in
-      ap (λ x. t (field ws p ((shape ws p).head + i)) (get_or ws x 0)) v ∙ group_each n (q + g) (j - 1) i a.1 (omega arith) m)
+      ap (λ x. t f (get_or ws x 0)) v ∙ group_each fs n (q + g) (j - 1) i f a.1 (omega arith) is)
       (cases_eq j 0)
 
-  each_group : (n q : ℕ) → ((j i : ℕ) → j < n → i < (shape ws p).group → t (field ws p ((shape ws p).head + i)) (get_or ws (q + (shape ws p).group * j + i) 0) ≡ true) → groups_pass t ws p q n ≡ true
+  each_group : (fs : List Field) (n q : ℕ) → ((j i : ℕ) (f : Field) → j < n → slice_get fs i ≡ Some f → t f (get_or ws (q + length fs * j + i) 0) ≡ true) → groups_pass t fs ws q n ≡ true
   unfolding groups_pass
-  each_group zero q h = refl
-  each_group (suc n) q h =
-      let g = (shape ws p).group in
-      and_from (run_passes t ws p (shape ws p).head q g) _
-      (each_run g (shape ws p).head q
-      (λ i m.
+  each_group fs zero q h = refl
+  each_group fs (suc n) q h =
+      let g = length fs in
+      and_from (run_passes t fs ws q) _
+      (each_run fs q
+      (λ i f is.
       let o = mul-zero g in
       let v : q + i ≡ q + g * 0 + i = omega arith in
-      ap (λ x. t (field ws p ((shape ws p).head + i)) (get_or ws x 0)) v ∙ h 0 i (omega arith) m))
-      (each_group n (q + g)
-      (λ j i l m.
+      ap (λ x. t f (get_or ws x 0)) v ∙ h 0 i f (omega arith) is))
+      (each_group fs n (q + g)
+      (λ j i f l is.
       let e : j + 1 ≡ 1 + j = omega arith in
       let o : g * (j + 1) ≡ g + g * j = ap (λ x. g * x) e ∙ mul-add g 1 j ∙ ap (λ x. x + g * j) (mul-one g) in
       let v : q + g + g * j + i ≡ q + g * (j + 1) + i = omega arith in
-      ap (λ x. t (field ws p ((shape ws p).head + i)) (get_or ws x 0)) v ∙ h (j + 1) i (omega arith) m))
+      ap (λ x. t f (get_or ws x 0)) v ∙ h (j + 1) i f (omega arith) is))
 
-  pub body_each : body_passes t ws p ≡ true → EachField (λ f w. t f w ≡ true) ws p
+  pub body_each : (p : ℕ) → body_passes t ws p ≡ true → EachField (λ f w. t f w ≡ true) ws p
   unfolding body_passes
-  body_each h =
-      let a = and_parts (run_passes t ws p 0 (p + 1) (shape ws p).head) _ h in
-      let b = and_parts (groups_pass t ws p (groups_from ws p) (groups ws p)) _ a.1 in
+  body_each p h =
+      let a = and_parts (run_passes t (shape ws p).head ws (p + 1)) _ h in
+      let b = and_parts (groups_pass t (shape ws p).group ws (groups_from ws p) (groups ws p)) _ a.1 in
       record {
-        in_head = λ i l. let z : 0 + i ≡ i = omega arith in ap (λ x. t (field ws p x) (get_or ws (p + 1 + i) 0)) (sym z) ∙ run_each (shape ws p).head 0 (p + 1) i a.0 l;
-        in_groups = λ j i l m. group_each (groups ws p) (groups_from ws p) j i b.0 l m;
-        in_tail = λ i l. run_each (tail ws p) ((shape ws p).head + (shape ws p).group) (tail_from ws p) i b.1 l;
+        in_head = λ i f is. run_each (shape ws p).head (p + 1) i f a.0 is;
+        in_groups = λ j i f l is. group_each (shape ws p).group (groups ws p) (groups_from ws p) j i f b.0 l is;
+        in_tail = λ i f is. run_each (shape ws p).tail (tail_from ws p) i f b.1 is;
       }
 
-  pub each_body : EachField (λ f w. t f w ≡ true) ws p → body_passes t ws p ≡ true
+  pub each_body : (p : ℕ) → EachField (λ f w. t f w ≡ true) ws p → body_passes t ws p ≡ true
   unfolding body_passes
-  each_body r =
-      and_from (run_passes t ws p 0 (p + 1) (shape ws p).head) _
-      (each_run (shape ws p).head 0 (p + 1) (λ k l. let z : 0 + k ≡ k = omega arith in ap (λ x. t (field ws p x) (get_or ws (p + 1 + k) 0)) z ∙ r.in_head k l))
-      (and_from (groups_pass t ws p (groups_from ws p) (groups ws p)) _
-      (each_group (groups ws p) (groups_from ws p) r.in_groups)
-      (each_run (tail ws p) ((shape ws p).head + (shape ws p).group) (tail_from ws p) r.in_tail))
+  each_body p r =
+      and_from (run_passes t (shape ws p).head ws (p + 1)) _ (each_run (shape ws p).head (p + 1) r.in_head)
+      (and_from (groups_pass t (shape ws p).group ws (groups_from ws p) (groups ws p)) _
+      (each_group (shape ws p).group (groups ws p) (groups_from ws p) r.in_groups)
+      (each_run (shape ws p).tail (tail_from ws p) r.in_tail))
 
 -- the tests of the children and of the words left over, undone
 child_passed : (b : Bool) → cond b None (Some WrongChild) ≡ None → b ≡ true
@@ -154,9 +146,8 @@ module _ (ws : List ℕ) where
     formed_sized = unsized ws (record { some = w.some; few = w.few; room = w.room; short = w.short })
 
     formed_laid : (e : ℕ) → e < entries ws → Laid ws e
-    unfolding end
     formed_laid e m =
-        let r = head-fits _ (w.tags e m) in
+        let r = known_end ws (place ws e) (w.tags e m) in
         let b = w.within e m in
         record {
           here = w.starts e m;

@@ -38,3 +38,14 @@ module _ {X : Type 0} (f : ℕ → Option X) where
   each_first (suc n) e h =
       ap (λ o. or_else o (first_some f (e + 1) n)) (h e (omega arith) (omega arith))
       ∙ each_first n (e + 1) (λ k a b. h k (omega arith) (omega arith))
+
+  -- where the first answers
+  pub first_found : (n e i : ℕ) (x : X) → e ≤ i → i < e + n → ((k : ℕ) → e ≤ k → k < i → f k ≡ None) → f i ≡ Some x → first_some f e n ≡ Some x
+  unfolding first_some
+  first_found zero e i x a b none some = absurd (omega arith)
+  first_found (suc n) e i x a b none some =
+      ⊎_elim (λ same. ap (λ o. or_else o (first_some f (e + 1) n)) (ap f same ∙ some))
+      (λ other.
+      ap (λ o. or_else o (first_some f (e + 1) n)) (none e (omega arith) (omega arith))
+      ∙ first_found n (e + 1) i x (omega arith) (omega arith) (λ k c d. none k (omega arith) d) some)
+      (cases_eq e i)

@@ -1,5 +1,6 @@
-pub mod Firsts
-pub mod Bodies
-pub mod Refusals
 pub mod Accepted
+pub mod Bodies
 pub mod Bytes
+pub mod Firsts
+pub mod Refusals
+pub mod Tests

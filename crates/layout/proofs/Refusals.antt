@@ -1,98 +1,76 @@
 -- The laws of the refusals: which test decides about an entry, and the first entry that is refused.
-use Rattle.std.proofs.Common.{◌≡◌, ℕ, ◌+◌, ◌-◌, ◌<◌, ◌≤◌, Bool, true, false, cond, not, ◌||◌, eqb, ltb, leb, ◌⊎◌, List, length, get_or, is_some, Some, None, Ok, Err, Option, sym, refl, ap, ◌∙◌, subst, ⊎_elim, add-one, arith}
-use Rattle.std.specs.Option.{option_map}
-use Rattle.std.proofs.lemmas.Bool.{and_from, and_parts, cases_eq, cond-false, cond-true, eq-eqb, eqb-true, le-leb, le-ltb, leb-false, leb-true, lt-leb, lt-ltb, ltb-false, ne_eqb, not-false, not_from_false, not_from_true, or_from, or_left, or_parts, or_right}
+use Rattle.std.proofs.Common.{◌≡◌, ℕ, ◌+◌, ◌-◌, ◌<◌, ◌≤◌, Bool, true, false, cond, not, ◌||◌, eqb, ltb, leb, ◌⊎◌, List, length, get_or, is_some, Some, None, Ok, Err, Option, sym, refl, ap, ◌∙◌, ⊎_elim, add-one, arith}
+use Rattle.std.proofs.lemmas.Bool.{and_from, and_parts, cond-false, cond-true, eq-eqb, eqb-true, le-leb, le-ltb, leb-false, leb-true, lt-ltb, ltb-false, ne_eqb, not-false, not_from_false, not_from_true, or_from, or_left, or_parts, or_right}
 use Rattle.layout.specs.First.{or_else}
 use Rattle.layout.specs.Layout.{body_passes, construct, end, entries, place, start}
 use Rattle.shape.specs.Shapes.{fits}
-use Rattle.layout.specs.Verdict.{answer, at, child_fault, child_fits, first, layout_fault, left_over, misplaced, refusal, sized}
+use Rattle.layout.specs.Verdict.{answer, at, body_fault, child_fault, child_fits, first, layout_fault, left_over, located, misplaced, refusal, sized}
+use Rattle.layout.proofs.Bodies.{body_there}
+use Rattle.layout.proofs.Firsts.{neither}
 use Rattle.layout.proofs.Firsts as some
 use Rattle.layout.specs.declared.error.BookError.{BookError}
 use Rattle.layout.specs.declared.error.BookFault.{BookFault}
 use Rattle.layout.specs.declared.error.BookFault.TheVariants.{BadField, BadLength, BadPlace, WrongChild}
 
+-- A fault stays what it is, whatever comes behind it
+kept : (e : ℕ) (o r : Option BookFault) (b : BookError) → located e o ≡ Some b → located e (or_else o r) ≡ Some b
+kept e None r b h = cc
+kept e (Some f) r b h = h
+
 -- The body of entry e, which has to stand at q
 module _ (ws : List ℕ) (e q : ℕ) (starts : q ≡ start ws e) where
-  away : (place ws e ≡ q → ⊥) → not (eqb (place ws e) (start ws e)) ≡ true
-  away ne = not_from_false _ (ne_eqb (place ws e) (start ws e) (λ same. ne (same ∙ sym starts)))
-
-  pub elsewhere : (place ws e ≡ q → ⊥) ⊎ (length ws ≤ q) → layout_fault ws e ≡ Some BadPlace
+  pub elsewhere : (place ws e ≡ q → ⊥) → layout_fault ws e ≡ Some BadPlace
   unfolding layout_fault
-  elsewhere h =
-      cond-true (not (eqb (place ws e) (start ws e)) || leb (length ws) (place ws e)) _ _
-      (⊎_elim (λ ne. or_left (not (eqb (place ws e) (start ws e))) _ (away ne))
-      (λ past.
-      ⊎_elim
-      (λ same. or_right (not (eqb (place ws e) (start ws e))) (leb (length ws) (place ws e)) (le-leb (length ws) (place ws e) (omega arith)))
-      (λ ne. or_left (not (eqb (place ws e) (start ws e))) _ (away ne))
-      (cases_eq (place ws e) q))
-      h)
+  elsewhere ne = cond-true _ _ _ (not_from_false _ (ne_eqb (place ws e) (start ws e) (λ same. ne (same ∙ sym starts))))
 
-  module _ (here : place ws e ≡ q) (within : q < length ws) where
-    stands : (not (eqb (place ws e) (start ws e)) || leb (length ws) (place ws e)) ≡ false
-    stands =
-        or_from _ _ (not_from_true _ (eq-eqb _ _ (here ∙ starts)))
-        (lt-leb (length ws) (place ws e) (omega arith))
-
-    pub unknown : is_some (construct ws q) ≡ false → layout_fault ws e ≡ Some BadField
+  module _ (here : place ws e ≡ q) where
+    layout_left : layout_fault ws e ≡ or_else (body_fault ws q) (cond (misplaced e (get_or ws q 0) || not (body_passes fits ws q)) (Some BadField) None)
     unfolding layout_fault
-    unknown h =
-        cond-false _ _ _ stands ∙ cond-true _ _ _ (not_from_false _ (ap (λ p. is_some (construct ws p)) here ∙ h))
+    layout_left =
+        cond-false _ _ _ (not_from_true _ (eq-eqb _ _ (here ∙ starts)))
+        ∙ ap (λ p. or_else (body_fault ws p) (cond (misplaced e (get_or ws p 0) || not (body_passes fits ws p)) (Some BadField) None)) here
 
-    module _ (known : is_some (construct ws q) ≡ true) where
-      named : not (is_some (construct ws (place ws e))) ≡ false
-      named = not_from_true _ (ap (λ p. is_some (construct ws p)) here ∙ known)
+    pub faulty : (b : BookError) → located e (body_fault ws q) ≡ Some b → located e (layout_fault ws e) ≡ Some b
+    faulty b h = ap (located e) layout_left ∙ kept e (body_fault ws q) _ b h
 
-      pub cut_short : length ws < end ws q → layout_fault ws e ≡ Some BadPlace
-      unfolding layout_fault
-      cut_short h =
-          cond-false _ _ _ stands ∙ cond-false _ _ _ named
-          ∙ cond-true _ _ _ (lt-ltb (length ws) (end ws (place ws e)) (subst (λ p. length ws < end ws p) (sym here) h))
+    module _ (whole : body_fault ws q ≡ None) where
+      fields_left : layout_fault ws e ≡ cond (misplaced e (get_or ws q 0) || not (body_passes fits ws q)) (Some BadField) None
+      fields_left = layout_left ∙ ap (λ o. or_else o (cond (misplaced e (get_or ws q 0) || not (body_passes fits ws q)) (Some BadField) None)) whole
 
-      module _ (whole : end ws q ≤ length ws) where
-        uncut : ltb (length ws) (end ws (place ws e)) ≡ false
-        uncut = le-ltb (length ws) (end ws (place ws e)) (subst (λ p. end ws p ≤ length ws) (sym here) whole)
+      pub unfit : (misplaced e (get_or ws q 0) ≡ true) ⊎ (body_passes fits ws q ≡ false) → layout_fault ws e ≡ Some BadField
+      unfit h =
+          fields_left
+          ∙ cond-true (misplaced e (get_or ws q 0) || not (body_passes fits ws q)) _ _
+          (⊎_elim (λ m. or_left (misplaced e (get_or ws q 0)) (not (body_passes fits ws q)) m)
+          (λ b. or_right (misplaced e (get_or ws q 0)) (not (body_passes fits ws q)) (not_from_false _ b))
+          h)
 
-        layout_left : layout_fault ws e ≡ cond (misplaced e (get_or ws q 0) || not (body_passes fits ws q)) (Some BadField) None
-        unfolding layout_fault
-        layout_left =
-            cond-false _ _ _ stands ∙ cond-false _ _ _ named ∙ cond-false _ _ _ uncut
-            ∙ ap (λ p. cond (misplaced e (get_or ws p 0) || not (body_passes fits ws p)) (Some BadField) None) here
-
-        pub unfit : (misplaced e (get_or ws q 0) ≡ true) ⊎ (body_passes fits ws q ≡ false) → layout_fault ws e ≡ Some BadField
-        unfit h =
-            layout_left
-            ∙ cond-true (misplaced e (get_or ws q 0) || not (body_passes fits ws q)) _ _
-            (⊎_elim (λ m. or_left (misplaced e (get_or ws q 0)) (not (body_passes fits ws q)) m)
-            (λ b. or_right (misplaced e (get_or ws q 0)) (not (body_passes fits ws q)) (not_from_false _ b))
-            h)
-
-        pub fine : misplaced e (get_or ws q 0) ≡ false → body_passes fits ws q ≡ true → layout_fault ws e ≡ None
-        fine m b = layout_left ∙ cond-false _ _ _ (or_from _ _ m (not_from_true _ b))
+      pub fine : misplaced e (get_or ws q 0) ≡ false → body_passes fits ws q ≡ true → layout_fault ws e ≡ None
+      fine m b = fields_left ∙ cond-false _ _ _ (or_from _ _ m (not_from_true _ b))
 
 -- The first entry with a fault
-mapped_none : (e : ℕ) (o : Option BookFault) → option_map (λ x. at x e) o ≡ None → o ≡ None
+mapped_none : (e : ℕ) (o : Option BookFault) → located e o ≡ None → o ≡ None
 mapped_none e None h = refl
-mapped_none e (Some b) h = let w : ◌≡◌ {A = ℕ} 0 1 = cc in absurd (omega arith)
+mapped_none e (Some b) h = cc
 
 module _ (f : ℕ → Option BookFault) where
-  abbrev located : ℕ → Option BookError
-  located e = option_map (λ b. at b e) (f e)
+  abbrev at_each : ℕ → Option BookError
+  at_each e = located e (f e)
 
   pub first_more : (e n : ℕ) → e < n → f e ≡ None → first f (e + 1) (n - (e + 1)) ≡ first f e (n - e)
-  first_more e n h none = some.first_more located e n h (ap (option_map (λ b. at b e)) none)
+  first_more e n h none = some.first_more at_each e n h (ap (located e) none)
 
-  pub first_hit : (e n : ℕ) (b : BookFault) → e < n → f e ≡ Some b → first f e (n - e) ≡ Some (at b e)
-  first_hit e n b h is = some.first_hit located e n (at b e) h (ap (option_map (λ x. at x e)) is)
+  pub first_hit : (e n : ℕ) (b : BookError) → e < n → located e (f e) ≡ Some b → first f e (n - e) ≡ Some b
+  first_hit e n b h is = some.first_hit at_each e n b h is
 
   pub first-none : (e n : ℕ) → n ≤ e → first f e (n - e) ≡ None
-  first-none e n h = some.first-none located e n h
+  first-none e n h = some.first-none at_each e n h
 
   pub first_each : (n e k : ℕ) → first f e n ≡ None → e ≤ k → k < e + n → f k ≡ None
-  first_each n e k h a b = mapped_none k (f k) (some.first_each located n e k h a b)
+  first_each n e k h a b = mapped_none k (f k) (some.first_each at_each n e k h a b)
 
   pub each_first : (n e : ℕ) → ((k : ℕ) → e ≤ k → k < e + n → f k ≡ None) → first f e n ≡ None
-  each_first n e h = some.each_first located n e (λ k a b. ap (option_map (λ x. at x k)) (h k a b))
+  each_first n e h = some.each_first at_each n e (λ k a b. ap (located k) (h k a b))
 
 pub start_more : (ws : List ℕ) (e : ℕ) → start ws (e + 1) ≡ end ws (place ws e)
 start_more ws e = ap (start ws) (add-one e)
@@ -110,26 +88,36 @@ refused-not : (t : Bool) (b : BookFault) (o : Option BookFault) → cond t (Some
 refused-not true b o h = let w : ◌≡◌ {A = ℕ} 0 1 = cc in absurd (omega arith)
 refused-not false b o h = (refl, h)
 
+whole-body : (ws : List ℕ) (p : ℕ) → body_fault ws p ≡ None → (p < length ws) × (is_some (construct ws p) ≡ true) × (end ws p ≤ length ws)
+whole-body ws p h =
+    let a = refused-not (leb (length ws) p) BadPlace _ h in
+    let b = refused-not (not (is_some (construct ws p))) BadField _ a.1 in
+    let c = refused-not (ltb (length ws) (end ws p)) BadPlace _ b.1 in
+    (leb-false (length ws) p a.0, not-false _ b.0, ltb-false (length ws) (end ws p) c.0)
+
 pub laid : (ws : List ℕ) (e : ℕ) → layout_fault ws e ≡ None → Laid ws e
 unfolding layout_fault
 laid ws e h =
-    let a = refused-not (not (eqb (place ws e) (start ws e)) || leb (length ws) (place ws e)) BadPlace _ h in
-    let b = refused-not (not (is_some (construct ws (place ws e)))) BadField _ a.1 in
-    let c = refused-not (ltb (length ws) (end ws (place ws e))) BadPlace _ b.1 in
-    let d = refused-not (misplaced e (get_or ws (place ws e) 0) || not (body_passes fits ws (place ws e))) BadField _ c.1 in
-    let s = or_parts (not (eqb (place ws e) (start ws e))) (leb (length ws) (place ws e)) a.0 in
+    let a = refused-not (not (eqb (place ws e) (start ws e))) BadPlace _ h in
+    let b = neither (body_fault ws (place ws e)) _ a.1 in
+    let c = whole-body ws (place ws e) b.0 in
+    let d = refused-not (misplaced e (get_or ws (place ws e) 0) || not (body_passes fits ws (place ws e))) BadField _ b.1 in
     let f = or_parts (misplaced e (get_or ws (place ws e) 0)) (not (body_passes fits ws (place ws e))) d.0 in
     record {
-      here = eqb-true _ _ (not-false _ s.0);
-      inside = leb-false (length ws) (place ws e) s.1;
-      named = not-false _ b.0;
-      whole = ltb-false (length ws) (end ws (place ws e)) c.0;
+      here = eqb-true _ _ (not-false _ a.0);
+      inside = c.0;
+      named = c.1;
+      whole = c.2;
       unit = f.0;
       fields = not-false _ f.1;
     }
 
 pub unlaid : (ws : List ℕ) (e : ℕ) → Laid ws e → layout_fault ws e ≡ None
-unlaid ws e l = fine ws e (place ws e) l.here refl l.inside l.named l.whole l.unit l.fields
+unlaid ws e l = fine ws e (place ws e) l.here refl (body_there ws (place ws e) l.inside l.named l.whole) l.unit l.fields
+
+-- The body of an entry with no fault is there
+pub laid_body : (ws : List ℕ) (e : ℕ) → layout_fault ws e ≡ None → body_fault ws (place ws e) ≡ None
+laid_body ws e h = let l = laid ws e h in body_there ws (place ws e) l.inside l.named l.whole
 
 -- What holds of words that are sized
 pub record Sized (ws : List ℕ) : Type 0 where

@@ -8,8 +8,6 @@ use Rattle.layout.specs.declared.error.BookError.{BookError}
 use Rattle.layout.specs.declared.error.BookFault.{BookFault}
 use Rattle.layout.specs.declared.error.BookFault.TheVariants.{BadField, BadLength, BadPlace, WrongChild}
 use Rattle.shape.specs.declared.Child.{Child}
-use Rattle.layout.specs.declared.walk.Pass.{Pass}
-use Rattle.layout.specs.declared.walk.Pass.TheVariants.{Children, Fields}
 use Rattle.shape.specs.declared.Field.{Field}
 use Rattle.shape.specs.declared.Field.TheVariants as F
 
@@ -36,14 +34,21 @@ abbrev pub misplaced : ℕ → ℕ → Bool
 misplaced zero tag = not (tag == 0)
 misplaced (suc e) tag = tag == 0
 
+-- What is wrong with the words of the body at p, if anything: none is there, its tag is unknown, or it is cut short
+abbrev pub body_fault : List ℕ → ℕ → Option BookFault
+body_fault ws p =
+    cond (nat_le (length ws) p) (Some BadPlace)
+    (cond (not (is_some (construct ws p))) (Some BadField)
+    (cond (nat_lt (length ws) (end ws p)) (Some BadPlace)
+    None))
+
 -- The fault of an entry's body, if any
 unfoldable pub layout_fault : List ℕ → ℕ → Option BookFault
 layout_fault ws e =
-    cond (not (place ws e == start ws e) || nat_le (length ws) (place ws e)) (Some BadPlace)
-    (cond (not (is_some (construct ws (place ws e)))) (Some BadField)
-    (cond (nat_lt (length ws) (end ws (place ws e))) (Some BadPlace)
+    cond (not (place ws e == start ws e)) (Some BadPlace)
+    (or_else (body_fault ws (place ws e))
     (cond (misplaced e (slice_index ws (place ws e)) || not (body_passes fits ws (place ws e))) (Some BadField)
-    None)))
+    None))
 
 -- A child is larger than its parent, below the number of entries, and one that its field takes
 abbrev pub is_child : List ℕ → ℕ → Child → ℕ → Bool
@@ -51,15 +56,9 @@ is_child ws e c w = nat_lt e w && (nat_lt w (entries ws) && takes c (slice_index
 
 -- Whether the word of a field of entry e is such a child, or 0 where it may be absent
 abbrev pub child_fits : List ℕ → ℕ → Field → ℕ → Bool
-child_fits ws e F.Absent w = true
 child_fits ws e (F.Number least most) w = true
 child_fits ws e (F.Child c) w = is_child ws e c w
 child_fits ws e (F.Optional c) w = w == 0 || is_child ws e c w
-
--- The test of a pass over the fields of entry e
-abbrev pub test : Pass → List ℕ → ℕ → Field → ℕ → Bool
-test Fields ws e f w = fits f w
-test Children ws e f w = child_fits ws e f w
 
 -- The fault of an entry's children, if any
 unfoldable pub child_fault : List ℕ → ℕ → Option BookFault
@@ -68,9 +67,13 @@ child_fault ws e = cond (body_passes (child_fits ws e) ws (place ws e)) None (So
 abbrev pub at : BookFault → ℕ → BookError
 at f e = record { fault = f; entry = e }
 
+-- A fault, if any, and the entry at which it arose
+abbrev pub located : ℕ → Option BookFault → Option BookError
+located e = option_map (λ b. at b e)
+
 -- The first of n entries, from e on, that has a fault
 abbrev pub first : (ℕ → Option BookFault) → ℕ → ℕ → Option BookError
-first f = first_some (λ e. option_map (λ b. at b e) (f e))
+first f = first_some (λ e. located e (f e))
 
 -- Words left over behind the last body
 abbrev pub left_over : List ℕ → Option BookError

@@ -1,19 +1,18 @@
 -- The books that are accepted, as the format says it.
-use Rattle.std.specs.Prelude.{◌≡◌, ℕ, ◌+◌, ◌-◌, ◌*◌, ◌<◌, ◌≤◌, true, false, List, length, is_some, slice_index}
-use Rattle.layout.specs.Layout.{construct, end, entries, field, groups, groups_from, place, shape, start, tail, tail_from}
+use Rattle.std.specs.Prelude.{◌≡◌, ℕ, ◌+◌, ◌-◌, ◌*◌, ◌<◌, ◌≤◌, true, false, List, length, is_some, Some, slice_index}
+use Rattle.std.specs.List.{slice_get}
+use Rattle.layout.specs.Layout.{construct, end, entries, groups, groups_from, place, shape, start, tail_from}
 use Rattle.shape.specs.Shapes.{fits}
 use Rattle.layout.specs.Verdict.{child_fits, misplaced}
 use Rattle.shape.specs.declared.Field.{Field}
 
 -- P of every field of the body at p and its word
 pub record EachField (P : Field → ℕ → Type 0) (ws : List ℕ) (p : ℕ) : Type 0 where
-  pub in_head : (i : ℕ) → i < (shape ws p).head → P (field ws p i) (slice_index ws (p + 1 + i))
+  pub in_head : (i : ℕ) (f : Field) → slice_get (shape ws p).head i ≡ Some f → P f (slice_index ws (p + 1 + i))
   pub in_groups :
-      (j i : ℕ) → j < groups ws p → i < (shape ws p).group
-      → P (field ws p ((shape ws p).head + i)) (slice_index ws (groups_from ws p + (shape ws p).group * j + i))
-  pub in_tail :
-      (i : ℕ) → i < tail ws p
-      → P (field ws p ((shape ws p).head + (shape ws p).group + i)) (slice_index ws (tail_from ws p + i))
+      (j i : ℕ) (f : Field) → j < groups ws p → slice_get (shape ws p).group i ≡ Some f
+      → P f (slice_index ws (groups_from ws p + length (shape ws p).group * j + i))
+  pub in_tail : (i : ℕ) (f : Field) → slice_get (shape ws p).tail i ≡ Some f → P f (slice_index ws (tail_from ws p + i))
 
 pub record WellFormed (ws : List ℕ) : Type 0 where
   pub some : 1 ≤ entries ws

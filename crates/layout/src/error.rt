@@ -1,6 +1,6 @@
 // Why words are no book.
 ghost use Rattle.std.specs.Prelude.{◌≡◌, ◌++◌, Some, codes, decimal};
-ghost use Rattle.layout.specs.Verdict.{name_of, number_of};
+ghost use Rattle.layout.specs.Verdict.{at, name_of, number_of};
 
 use std::error::Error;
 use std::fmt;
@@ -18,6 +18,15 @@ pub enum BookFault {
 pub struct BookError {
     pub fault: BookFault,
     pub entry: u16,
+}
+
+impl BookFault {
+    // The refusal with this fault at an entry.
+    pub(crate) fn at(self, entry: u16) -> BookError
+        ensures { result ≡ at self entry }
+    {
+        BookError { fault: self, entry }
+    }
 }
 
 // The number under which the refusal is printed.

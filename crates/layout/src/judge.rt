@@ -1,90 +1,73 @@
 // The judgment: whether words are a book, and why not.
-ghost use Rattle.std.specs.Prelude.{◌≡◌, ℕ, ◌-◌, ◌<◌, ◌≤◌, true, length, is_ok, Some, None, Decides, MatchResult};
+ghost use Rattle.std.specs.Prelude.{◌≡◌, ℕ, ◌<◌, is_ok, Some, None, Decides, MatchResult};
 ghost use Rattle.layout.specs.First.{or_else};
-ghost use Rattle.layout.specs.Layout.{end, entries, place, start};
-ghost use Rattle.layout.specs.Verdict.{answer, child_fault, first, layout_fault, left_over, misplaced, sized, verdict};
+ghost use Rattle.layout.specs.Layout.{body_passes, end, entries, place, start};
+ghost use Rattle.layout.specs.Verdict.{answer, child_fault, child_fits, first, layout_fault, left_over, located, misplaced, verdict};
 ghost use Rattle.layout.specs.WellFormed.{WellFormed};
 
 use crate::error::{BookError, BookFault};
-use crate::walk::{Pass, body_passes, construct_at, end_of, word};
-
-// Whether there are 1 to 4,096 entries, room for their places, and at most 65,535 words.
-fn is_sized(words: &[u16]) -> bool
-    ensures { result ≡ sized words.now }
-{
-    let n = word(words, 0) as usize;
-    1 <= n && n <= 4096 && n + 1 <= words.len() && words.len() <= 65535
-}
+use crate::walk::Draft;
 
 // Whether the unit's tag stands elsewhere than at entry 0, or another there.
-fn is_misplaced(e: usize, tag: u16) -> bool
+fn is_misplaced(e: u16, tag: u16) -> bool
     ensures { result ≡ misplaced e tag }
 {
-    if e == 0 { tag != 0 } else { tag == 0 }
+    (e == 0) != (tag == 0)
 }
 
-// Where the body of entry `e`, which has to stand at `at`, ends, or its fault.
-fn check_body(words: &[u16], e: usize, at: usize) -> Result<usize, BookFault>
-    requires short { length words.now ≤ 65535 }
-    requires below { e < 65535 }
-    requires starts { at ≡ start words.now e }
-    ensures { MatchResult result (λ q. (layout_fault words.now e ≡ None) × (q ≡ end words.now (place words.now e))) (λ f. layout_fault words.now e ≡ Some f) }
+// Where the body of entry `e`, which has to stand at `at`, ends, or the refusal of it.
+fn check_body(draft: &Draft, e: u16, at: usize) -> Result<usize, BookError>
+    requires { at ≡ start draft.now.words.now e }
+    ensures { MatchResult result
+        (λ q. (layout_fault draft.now.words.now e ≡ None) × (q ≡ end draft.now.words.now (place draft.now.words.now e)))
+        (λ b. located e (layout_fault draft.now.words.now e) ≡ Some b) }
 {
-    if word(words, e + 1) as usize != at || words.len() <= at {
-        return Err(BookFault::BadPlace);
+    if draft.place(e) != at {
+        return Err(BookFault::BadPlace.at(e));
     }
-    if construct_at(words, at).is_none() {
-        return Err(BookFault::BadField);
+    let body = draft.body(e, at)?;
+    if is_misplaced(e, body.tag()) || !body.passes(|field, word| field.fits(word)) {
+        return Err(BookFault::BadField.at(e));
     }
-    let end = end_of(words, at);
-    if words.len() < end {
-        return Err(BookFault::BadPlace);
-    }
-    if is_misplaced(e, words[at]) || !body_passes(Pass::Fields, words, e, at) {
-        return Err(BookFault::BadField);
-    }
-    Ok(end)
+    Ok(body.end())
 }
 
 // Walks the bodies in order, and sees that no word is left over.
-fn lay_out(words: &[u16]) -> Result<(), BookError>
-    requires { sized words.now ≡ true }
-    ensures { result ≡ answer (or_else (first (layout_fault words.now) 0 (entries words.now)) (left_over words.now)) }
+fn lay_out(draft: &Draft) -> Result<(), BookError>
+    ensures { result ≡ answer (or_else (first (layout_fault draft.now.words.now) 0 (entries draft.now.words.now)) (left_over draft.now.words.now)) }
 {
-    let n = word(words, 0);
+    let n = draft.entries();
     let mut at = n as usize + 1;
     for e in 0..n {
-        match check_body(words, e as usize, at) {
-            Ok(end) => at = end,
-            Err(fault) => return Err(BookError { fault, entry: e }),
-        }
+        at = check_body(draft, e, at)?;
     }
-    if at < words.len() {
-        return Err(BookError {
-            fault: BookFault::BadPlace,
-            entry: n - 1,
-        });
+    if at < draft.length() {
+        return Err(BookFault::BadPlace.at(n - 1));
     }
     Ok(())
 }
 
-// Checks the children of each entry in order.
-fn check_children(words: &[u16]) -> Result<(), BookError>
-    requires sized { sized words.now ≡ true }
-    requires laid { (e : ℕ) → e < entries words.now → layout_fault words.now e ≡ None }
-    ensures { result ≡ answer (first (child_fault words.now) 0 (entries words.now)) }
+// Whether the children of an entry are right, if its body has no fault.
+fn children_fit(draft: &Draft, e: u16) -> bool
+    ensures { layout_fault draft.now.words.now e ≡ None
+        → result ≡ body_passes (child_fits draft.now.words.now e) draft.now.words.now (place draft.now.words.now e) }
 {
-    let count = word(words, 0);
-    for e in 0..count {
-        let at = word(words, e as usize + 1) as usize;
-        if !body_passes(Pass::Children, words, e as usize, at) {
-            return Err(BookError {
-                fault: BookFault::WrongChild,
-                entry: e,
-            });
-        }
+    let draft = *draft;
+    match draft.body(e, draft.place(e)) {
+        Ok(body) => body.passes(move |field, word| draft.child_fits(e, field, word)),
+        Err(_) => false,
     }
-    Ok(())
+}
+
+// Checks the children of each entry in order.
+fn check_children(draft: &Draft) -> Result<(), BookError>
+    requires { (e : ℕ) → e < entries draft.now.words.now → layout_fault draft.now.words.now e ≡ None }
+    ensures { result ≡ answer (first (child_fault draft.now.words.now) 0 (entries draft.now.words.now)) }
+{
+    match (0..draft.entries()).find(|e| !children_fit(draft, *e)) {
+        Some(e) => Err(BookFault::WrongChild.at(e)),
+        None => Ok(()),
+    }
 }
 
 // The verdict on the words: whether they are a book, or the first refusal.
@@ -92,12 +75,9 @@ pub fn judge(words: &[u16]) -> Result<(), BookError>
     ensures verdict { result ≡ verdict words.now }
     ensures accepted { Decides (is_ok result) (WellFormed words.now) }
 {
-    if !is_sized(words) {
-        return Err(BookError {
-            fault: BookFault::BadLength,
-            entry: 0,
-        });
-    }
-    lay_out(words)?;
-    check_children(words)
+    let Some(draft) = Draft::read(words) else {
+        return Err(BookFault::BadLength.at(0));
+    };
+    lay_out(&draft)?;
+    check_children(&draft)
 }

@@ -1,27 +1,27 @@
-// A body among words that are not yet a book: where it ends, and a test of its fields.
-ghost use Rattle.std.specs.Prelude.{◌≡◌, ◌+◌, ◌≤◌, true, is_some, slice_index};
-ghost use Rattle.layout.specs.Layout.{body_passes, construct, end, field, groups, groups_from, groups_pass, run_passes, shape};
-ghost use Rattle.layout.specs.Verdict.{child_fits, is_child, test};
+// Words that may be a book, and the bodies among them: where each ends, and a test of its fields.
+ghost use Rattle.std.specs.Prelude.{◌≡◌, ℕ, ◌*◌, ◌≤◌, Bool, true, false, length, slice_index, Some, None, MatchOption, MatchResult};
+ghost use Rattle.std.specs.List.{list_all};
+ghost use Rattle.std.specs.Simd.{first_chunks};
+ghost use Rattle.shape.specs.Shapes.{row};
+ghost use Rattle.shape.specs.declared.Field.{Field};
+ghost use Rattle.layout.specs.Layout.{Answers, all_pass, body_passes, construct, entries, place};
+ghost use Rattle.layout.specs.Layout as layout;
+ghost use Rattle.layout.specs.Verdict.{body_fault, child_fits, is_child, located, sized};
 
-use shape::{Child, Construct, Field, Shape, field_of, shape_of};
-
-// What a pass over the bodies tests: whether the words fit their fields, or whether the children are right.
-#[derive(Clone, Copy)]
-pub enum Pass {
-    Fields,
-    Children,
-}
+use crate::error::{BookError, BookFault};
+use shape::{Child, Construct, Field, Shape, shape_of};
 
 // A word, 0 past the last.
 pub fn word(words: &[u16], at: usize) -> u16
     ensures { result ≡ slice_index words.now at }
 {
-    if at < words.len() { words[at] } else { 0 }
+    words.get(at).copied().unwrap_or(0)
 }
 
-// The lengths of the body at `p`.
-fn shape_at(words: &[u16], p: usize) -> Shape
-    ensures { result ≡ shape words.now p }
+// The shape of the body at `p`, none for an unknown tag.
+fn shape_at(words: &[u16], p: usize) -> Option<&'static Shape>
+    ensures { MatchOption result (construct words.now p ≡ None)
+        (λ s. (construct words.now p ≡ Some s.now.construct) × ((row s.now).1 ≡ layout.shape words.now p)) }
 {
     shape_of(word(words, p))
 }
@@ -30,132 +30,164 @@ fn shape_at(words: &[u16], p: usize) -> Shape
 pub fn construct_at(words: &[u16], p: usize) -> Option<Construct>
     ensures { result ≡ construct words.now p }
 {
-    shape_at(words, p).construct
+    Some(shape_at(words, p)?.construct)
 }
 
-// The i-th field of the body at `p`, of which a group is counted once.
-fn field_at(words: &[u16], p: usize, i: usize) -> Field
-    ensures { result ≡ field words.now p i }
-{
-    field_of(word(words, p), i)
+// Words that may be a book: 1 to 4,096 entries, room for their places, and at most 65,535 words.
+#[derive(Clone, Copy)]
+pub(crate) struct Draft<'a> {
+    words: &'a [u16],
+    ghost has_size: { sized words.now ≡ true },
 }
 
-// How many groups the body at `p` has.
-fn groups_of(words: &[u16], p: usize) -> usize
-    requires { p ≤ 65535 }
-    ensures value { result ≡ groups words.now p }
-    ensures bound { result ≤ 65535 }
-{
-    let shape = shape_at(words, p);
-    if shape.group == 0 {
-        0
-    } else {
-        word(words, p + shape.head as usize) as usize
+// A body whose words are all there: where it stands among them, its shape, and where it ends.
+#[derive(Clone, Copy)]
+pub(crate) struct Body<'a> {
+    words: &'a [u16],
+    at: usize,
+    shape: &'static Shape,
+    end: usize,
+    ghost known: { construct words.now at ≡ Some shape.now.construct },
+    ghost laid: { (row shape.now).1 ≡ layout.shape words.now at },
+    ghost ends: { end ≡ layout.end words.now at },
+    ghost whole: { end ≤ length words.now },
+}
+
+impl<'a> Draft<'a> {
+    // The draft that the words are, none if they are too few or too many.
+    pub(crate) fn read(words: &'a [u16]) -> Option<Draft<'a>>
+        ensures { MatchOption result (sized words.now ≡ false) (λ d. d.words.now ≡ words.now) }
+    {
+        let n = word(words, 0) as usize;
+        if (1..=4096).contains(&n) && n < words.len() && words.len() <= 65535 {
+            Some(Draft { words })
+        } else {
+            None
+        }
     }
-}
 
-// Where the body at `p` ends.
-pub(crate) fn end_of(words: &[u16], p: usize) -> usize
-    requires { p ≤ 65535 }
-    ensures { result ≡ end words.now p }
-{
-    let shape = shape_at(words, p);
-    p + shape.length as usize + shape.group as usize * groups_of(words, p)
-}
-
-// Whether `w` may be the child of entry `e` in a field that takes `child`.
-fn is_child(words: &[u16], e: usize, child: Child, w: u16) -> bool
-    ensures { result ≡ is_child words.now e child w }
-{
-    e < w as usize
-        && w < word(words, 0)
-        && child.takes(word(words, word(words, w as usize + 1) as usize))
-}
-
-fn child_fits(words: &[u16], e: usize, field: Field, w: u16) -> bool
-    ensures { result ≡ child_fits words.now e field w }
-{
-    match field {
-        Field::Child(child) => is_child(words, e, child, w),
-        Field::Optional(child) => w == 0 || is_child(words, e, child, w),
-        _ => true,
+    // How many entries there are.
+    pub(crate) fn entries(&self) -> u16
+        ensures { result ≡ entries self.now.words.now }
+    {
+        word(self.words, 0)
     }
-}
 
-fn passes(pass: Pass, words: &[u16], e: usize, field: Field, w: u16) -> bool
-    ensures { result ≡ test pass words.now e field w }
-{
-    match pass {
-        Pass::Fields => field.fits(w),
-        Pass::Children => child_fits(words, e, field, w),
+    // Where the body of an entry stands.
+    pub(crate) fn place(&self, e: u16) -> usize
+        ensures { result ≡ place self.now.words.now e }
+    {
+        word(self.words, e as usize + 1) as usize
     }
-}
 
-// Tests `n` fields, from the i-th of the body at `p` on, whose words stand from `q` on.
-fn run_passes(pass: Pass, words: &[u16], e: usize, p: usize, i: usize, q: usize, n: usize) -> bool
-    requires fields { i + n ≤ 65535 }
-    requires words { q + n ≤ 65535 }
-    ensures { result ≡ run_passes (test pass words.now e) words.now p i q n }
-{
-    for k in 0..n {
-        if !passes(
-            pass,
+    // How many words there are.
+    pub(crate) fn length(&self) -> usize
+        ensures { result ≡ length self.now.words.now }
+    {
+        self.words.len()
+    }
+
+    // The body of entry `e` at `at`, or what is wrong with its words.
+    pub(crate) fn body(&self, e: u16, at: usize) -> Result<Body<'a>, BookError>
+        ensures { MatchResult result
+            (λ b. (body_fault self.now.words.now at ≡ None) × (b.words.now ≡ self.now.words.now) × (b.at ≡ at))
+            (λ b. located e (body_fault self.now.words.now at) ≡ Some b) }
+    {
+        let words = self.words;
+        if words.len() <= at {
+            return Err(BookFault::BadPlace.at(e));
+        }
+        let Some(shape) = shape_at(words, at) else {
+            return Err(BookFault::BadField.at(e));
+        };
+        let groups = match shape.group {
+            [] => 0,
+            _ => word(words, at + shape.head.len()) as usize,
+        };
+        let end = at + 1 + shape.head.len() + shape.group.len() * groups + shape.tail.len();
+        if words.len() < end {
+            return Err(BookFault::BadPlace.at(e));
+        }
+        Ok(Body {
             words,
-            e,
-            field_at(words, p, i + k),
-            word(words, q + k),
-        ) {
-            return false;
+            at,
+            shape,
+            end,
+        })
+    }
+
+    // Whether `w` may be the child of entry `e` in a field that takes `child`.
+    fn is_child(&self, e: u16, child: Child, w: u16) -> bool
+        ensures { result ≡ is_child self.now.words.now e child w }
+    {
+        e < w && w < self.entries() && child.takes(word(self.words, self.place(w)))
+    }
+
+    // Whether the word may stand in the field of entry `e`, as far as children go.
+    pub(crate) fn child_fits(&self, e: u16, field: Field, w: u16) -> bool
+        ensures { result ≡ child_fits self.now.words.now e field w }
+    {
+        match field {
+            Field::Number { .. } => true,
+            Field::Child(child) => self.is_child(e, child, w),
+            Field::Optional(child) => w == 0 || self.is_child(e, child, w),
         }
     }
-    true
 }
 
-// Tests every group of the body at `p`.
-fn groups_pass(pass: Pass, words: &[u16], e: usize, p: usize) -> bool
-    requires place { p ≤ 65535 }
-    requires known { is_some (construct words.now p) ≡ true }
-    requires within { end words.now p ≤ 65535 }
-    ensures { result ≡ groups_pass (test pass words.now e) words.now p (groups_from words.now p) (groups words.now p) }
-{
-    let shape = shape_at(words, p);
-    let head = shape.head as usize;
-    let group = shape.group as usize;
-    let n = groups_of(words, p);
-    let mut q = p + 1 + head;
-    for _k in 0..n {
-        if !run_passes(pass, words, e, p, head, q, group) {
-            return false;
-        }
-        q += group;
+impl Body<'_> {
+    // The tag.
+    pub(crate) fn tag(&self) -> u16
+        ensures { result ≡ slice_index self.now.words.now self.now.at }
+    {
+        word(self.words, self.at)
     }
-    true
+
+    // Where the body ends.
+    pub(crate) fn end(&self) -> usize
+        ensures { result ≡ layout.end self.now.words.now self.now.at }
+    {
+        self.end
+    }
+
+    // Whether the test passes each field with its word.
+    #[tactic(auto, using(crate::proofs::Bodies::end_is))]
+    pub(crate) fn passes<F: Fn(Field, u16) -> bool>(&self, test: F) -> bool
+        requires { F.IsAlwaysCallable test }
+        ensures { (t : Field → ℕ → Bool) → Answers (F.post test) t → result ≡ body_passes t self.now.words.now self.now.at }
+    {
+        let Shape {
+            head,
+            group,
+            tail,
+            ..
+        } = self.shape;
+        let groups_from = self.at + 1 + head.len();
+        let tail_from = self.end - tail.len();
+        all_pass(head, &self.words[self.at + 1..groups_from], &test)
+            && groups_pass(group, &self.words[groups_from..tail_from], &test)
+            && all_pass(tail, &self.words[tail_from..self.end], &test)
+    }
 }
 
-// Tests every field of the body at `p`.
-pub(crate) fn body_passes(pass: Pass, words: &[u16], e: usize, p: usize) -> bool
-    requires place { p ≤ 65535 }
-    requires known { is_some (construct words.now p) ≡ true }
-    requires within { end words.now p ≤ 65535 }
-    ensures { result ≡ body_passes (test pass words.now e) words.now p }
+// Whether the test passes each field with its word.
+fn all_pass<F: Fn(Field, u16) -> bool>(fields: &[Field], words: &[u16], test: &F) -> bool
+    requires { F.IsAlwaysCallable test.now }
+    ensures { (t : Field → ℕ → Bool) → Answers (F.post test.now) t → result ≡ all_pass t fields.now words.now }
 {
-    let shape = shape_at(words, p);
-    let head = shape.head as usize;
-    let group = shape.group as usize;
-    let tail = shape.length as usize - 1 - head;
-    if !run_passes(pass, words, e, p, 0, p + 1, head) {
-        return false;
-    }
-    if !groups_pass(pass, words, e, p) {
-        return false;
-    }
-    run_passes(
-        pass,
-        words,
-        e,
-        p,
-        head + group,
-        end_of(words, p) - tail,
-        tail,
-    )
+    fields
+        .iter()
+        .zip(words)
+        .all(|(field, word)| test(*field, *word))
+}
+
+// The same of the fields of a group, in each group of words.
+fn groups_pass<F: Fn(Field, u16) -> bool>(fields: &[Field], words: &[u16], test: &F) -> bool
+    requires { F.IsAlwaysCallable test.now }
+    ensures { (t : Field → ℕ → Bool) (k : ℕ) → Answers (F.post test.now) t → length words.now ≡ length fields.now * k → result ≡ list_all (all_pass t fields.now) (first_chunks (length fields.now) k words.now) }
+{
+    fields.is_empty()
+        || words
+            .chunks_exact(fields.len())
+            .all(|group| all_pass(fields, group, test))
 }

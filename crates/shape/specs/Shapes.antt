@@ -1,5 +1,7 @@
 -- The body of each construct, the tag of each construct, and what a field takes.
-use Rattle.std.specs.Prelude.{ℕ, ◌+◌, Bool, true, false, ◌&&◌, ◌||◌, List, [], ◌∷◌, ◌++◌, map, length, replicate, Some, None, Option, ◌==◌, nat_le, slice_index_or}
+use Rattle.std.specs.Prelude.{ℕ, Bool, true, false, ◌&&◌, ◌||◌, List, [], ◌∷◌, ◌++◌, map, replicate, Some, None, Option, ◌==◌, nat_le, slice_index_or}
+use Rattle.std.specs.Option.{option_and_then, option_map}
+use Rattle.std.specs.List.{slice_get}
 use Rattle.shape.specs.declared.Child.{Child}
 use Rattle.shape.specs.declared.Child.TheVariants as C
 use Rattle.shape.specs.declared.Construct.{Construct}
@@ -97,21 +99,18 @@ layout_of Name = fixed (name ∷ [])
 layout_of Call = counted (name ∷ argument_count ∷ []) (expression ∷ []) []
 layout_of Function = counted (name ∷ flags ∷ type' ∷ body ∷ argument_count ∷ []) (name ∷ parameter_type ∷ []) []
 
--- Every field of a body, of which a group is counted once
-unfoldable pub fields_of : Option Construct → List Field
-fields_of None = []
-fields_of (Some c) = (layout_of c).head ++ (layout_of c).group ++ (layout_of c).tail
+-- The layout of a body's construct; that of an unknown tag has no field
+abbrev pub shape_of : Option Construct → Layout
+shape_of None = fixed []
+shape_of (Some c) = layout_of c
 
--- How many words a body has but for its groups, and how many fields its head and a group have
-unfoldable pub shape_of : Option Construct → Shape
-shape_of None = record { construct = None; length = 0; head = 0; group = 0 }
-shape_of (Some c) =
-    record {
-      construct = Some c;
-      length = 1 + length (layout_of c).head + length (layout_of c).tail;
-      head = length (layout_of c).head;
-      group = length (layout_of c).group;
-    }
+-- What a shape says: a construct, and the layout of its body
+abbrev pub row : Shape → Construct × Layout
+row s = (s.construct, record { head = s.head.now; group = s.group.now; tail = s.tail.now })
+
+-- What rows of shapes say of a tag
+unfoldable pub row_at : List (Option Shape) → ℕ → Option (Construct × Layout)
+row_at rows tag = option_and_then (option_map row) (slice_get rows tag)
 
 -- The constructs by their tags, 0 to 48: 19 to 31 and 38 to 47 are unknown
 abbrev pub constructs : List (Option Construct)
@@ -127,7 +126,6 @@ construct_of tag = slice_index_or constructs tag None
 
 -- Whether a word may stand in a field; a child is judged by what its field takes
 abbrev pub fits : Field → ℕ → Bool
-fits F.Absent w = true
 fits (F.Number least most) w = nat_le least w && nat_le w most
 fits (F.Child c) w = true
 fits (F.Optional c) w = true

@@ -1,11 +1,11 @@
 #![tactic(auto)]
 // What the body of each tag looks like: the one table by which bodies are walked and children are checked.
-ghost use Rattle.std.specs.Prelude.{◌≡◌, slice_index_or};
-ghost use Rattle.shape.specs.declared.Field.TheVariants.{Absent};
-ghost use Rattle.shape.specs.Shapes.{construct_of, fields_of, fits, shape_of, takes};
+ghost use Rattle.std.specs.Prelude.{◌≡◌};
+ghost use Rattle.std.specs.Option.{option_map};
+ghost use Rattle.shape.specs.Shapes.{construct_of, fits, layout_of, row, row_at, takes};
 
 // What an entry says.
-#[derive(Clone, Copy)]
+#[derive(Clone, Copy, PartialEq, Eq, Debug)]
 pub enum Construct {
     Unit,
     Empty,
@@ -36,7 +36,7 @@ pub enum Construct {
 }
 
 // The entries that a field takes for its child.
-#[derive(Clone, Copy)]
+#[derive(Clone, Copy, PartialEq, Eq, Debug)]
 pub enum Child {
     Expression,
     Statement,
@@ -49,28 +49,22 @@ pub enum Child {
 }
 
 // What a word of a body is.
-#[derive(Clone, Copy)]
+#[derive(Clone, Copy, PartialEq, Eq, Debug)]
 pub enum Field {
-    Absent,
     Number { least: u16, most: u16 },
     Child(Child),
     Optional(Child),
 }
 
-// The lengths of a tag's body: the tag's word and the head, the group as often as the head's last field says,
+// A construct, and the fields of its body behind the tag: the head, the group as often as the head's last field says,
 // and the tail.
-#[derive(Clone, Copy)]
+#[derive(Clone, Copy, Debug)]
 pub struct Shape {
-    // none for an unknown tag
-    pub construct: Option<Construct>,
-    // how many words the body has but for its groups
-    pub length: u8,
-    // how many fields the head has, and each group
-    pub head: u8,
-    pub group: u8,
+    pub construct: Construct,
+    pub head: &'static [Field],
+    pub group: &'static [Field],
+    pub tail: &'static [Field],
 }
-
-const ABSENT: Field = Field::Absent;
 
 const WORD: Field = Field::Number {
     least: 0,
@@ -128,370 +122,207 @@ const OPTIONAL_INITIALIZER: Field = Field::Optional(Child::Initializer);
 
 const OPTIONAL_UPDATE: Field = Field::Optional(Child::Update);
 
-const UNKNOWN: Shape = Shape {
-    construct: None,
-    length: 0,
-    head: 0,
-    group: 0,
-};
-
-// The table over the tags 0 to 48: the lengths of each body,
-static SHAPES: [Shape; 49] = [
-    Shape {
-        construct: Some(Construct::Unit),
-        length: 2,
-        head: 1,
-        group: 1,
-    },
-    Shape {
-        construct: Some(Construct::Empty),
-        length: 1,
-        head: 0,
-        group: 0,
-    },
-    Shape {
-        construct: Some(Construct::Compound),
-        length: 2,
-        head: 1,
-        group: 1,
-    },
-    Shape {
-        construct: Some(Construct::Assignment),
-        length: 4,
-        head: 3,
-        group: 0,
-    },
-    Shape {
-        construct: Some(Construct::Increment),
-        length: 2,
-        head: 1,
-        group: 0,
-    },
-    Shape {
-        construct: Some(Construct::Decrement),
-        length: 2,
-        head: 1,
-        group: 0,
-    },
-    Shape {
-        construct: Some(Construct::If),
-        length: 3,
-        head: 1,
-        group: 2,
-    },
-    Shape {
-        construct: Some(Construct::Switch),
-        length: 3,
-        head: 2,
-        group: 2,
-    },
-    Shape {
-        construct: Some(Construct::Loop),
-        length: 3,
-        head: 2,
-        group: 0,
-    },
-    Shape {
-        construct: Some(Construct::For),
-        length: 5,
-        head: 4,
-        group: 0,
-    },
-    Shape {
-        construct: Some(Construct::While),
-        length: 3,
-        head: 2,
-        group: 0,
-    },
-    Shape {
-        construct: Some(Construct::Break),
-        length: 1,
-        head: 0,
-        group: 0,
-    },
-    Shape {
-        construct: Some(Construct::Continue),
-        length: 1,
-        head: 0,
-        group: 0,
-    },
-    Shape {
-        construct: Some(Construct::Return),
-        length: 2,
-        head: 1,
-        group: 0,
-    },
-    Shape {
-        construct: Some(Construct::Discard),
-        length: 1,
-        head: 0,
-        group: 0,
-    },
-    Shape {
-        construct: Some(Construct::CallStatement),
-        length: 2,
-        head: 1,
-        group: 0,
-    },
-    Shape {
-        construct: Some(Construct::ConstAssert),
-        length: 2,
-        head: 1,
-        group: 0,
-    },
-    Shape {
-        construct: Some(Construct::Declaration),
-        length: 5,
-        head: 4,
-        group: 0,
-    },
-    Shape {
-        construct: Some(Construct::Continuing),
-        length: 3,
-        head: 2,
-        group: 0,
-    },
-    UNKNOWN,
-    UNKNOWN,
-    UNKNOWN,
-    UNKNOWN,
-    UNKNOWN,
-    UNKNOWN,
-    UNKNOWN,
-    UNKNOWN,
-    UNKNOWN,
-    UNKNOWN,
-    UNKNOWN,
-    UNKNOWN,
-    UNKNOWN,
-    Shape {
-        construct: Some(Construct::Literal),
-        length: 6,
-        head: 5,
-        group: 0,
-    },
-    Shape {
-        construct: Some(Construct::Parenthesized),
-        length: 2,
-        head: 1,
-        group: 0,
-    },
-    Shape {
-        construct: Some(Construct::Unary),
-        length: 3,
-        head: 2,
-        group: 0,
-    },
-    Shape {
-        construct: Some(Construct::Binary),
-        length: 4,
-        head: 3,
-        group: 0,
-    },
-    Shape {
-        construct: Some(Construct::Name),
-        length: 2,
-        head: 1,
-        group: 0,
-    },
-    Shape {
-        construct: Some(Construct::Call),
-        length: 3,
-        head: 2,
-        group: 1,
-    },
-    UNKNOWN,
-    UNKNOWN,
-    UNKNOWN,
-    UNKNOWN,
-    UNKNOWN,
-    UNKNOWN,
-    UNKNOWN,
-    UNKNOWN,
-    UNKNOWN,
-    UNKNOWN,
-    Shape {
-        construct: Some(Construct::Function),
-        length: 6,
-        head: 5,
-        group: 2,
-    },
+// The table over the tags 0 to 48.
+static SHAPES: [Option<Shape>; 49] = [
+    Some(Shape {
+        construct: Construct::Unit,
+        head: &[COUNT],
+        group: &[MEMBER],
+        tail: &[],
+    }),
+    Some(Shape {
+        construct: Construct::Empty,
+        head: &[],
+        group: &[],
+        tail: &[],
+    }),
+    Some(Shape {
+        construct: Construct::Compound,
+        head: &[COUNT],
+        group: &[STATEMENT],
+        tail: &[],
+    }),
+    Some(Shape {
+        construct: Construct::Assignment,
+        head: &[ASSIGNMENT_OPERATOR, EXPRESSION, EXPRESSION],
+        group: &[],
+        tail: &[],
+    }),
+    Some(Shape {
+        construct: Construct::Increment,
+        head: &[EXPRESSION],
+        group: &[],
+        tail: &[],
+    }),
+    Some(Shape {
+        construct: Construct::Decrement,
+        head: &[EXPRESSION],
+        group: &[],
+        tail: &[],
+    }),
+    Some(Shape {
+        construct: Construct::If,
+        head: &[IF_COUNT],
+        group: &[EXPRESSION, BODY],
+        tail: &[OPTIONAL_BODY],
+    }),
+    Some(Shape {
+        construct: Construct::Switch,
+        head: &[EXPRESSION, COUNT],
+        group: &[OPTIONAL_EXPRESSION, BODY],
+        tail: &[],
+    }),
+    Some(Shape {
+        construct: Construct::Loop,
+        head: &[BODY, OPTIONAL_CONTINUING],
+        group: &[],
+        tail: &[],
+    }),
+    Some(Shape {
+        construct: Construct::For,
+        head: &[
+            OPTIONAL_INITIALIZER,
+            OPTIONAL_EXPRESSION,
+            OPTIONAL_UPDATE,
+            BODY,
+        ],
+        group: &[],
+        tail: &[],
+    }),
+    Some(Shape {
+        construct: Construct::While,
+        head: &[EXPRESSION, BODY],
+        group: &[],
+        tail: &[],
+    }),
+    Some(Shape {
+        construct: Construct::Break,
+        head: &[],
+        group: &[],
+        tail: &[],
+    }),
+    Some(Shape {
+        construct: Construct::Continue,
+        head: &[],
+        group: &[],
+        tail: &[],
+    }),
+    Some(Shape {
+        construct: Construct::Return,
+        head: &[OPTIONAL_EXPRESSION],
+        group: &[],
+        tail: &[],
+    }),
+    Some(Shape {
+        construct: Construct::Discard,
+        head: &[],
+        group: &[],
+        tail: &[],
+    }),
+    Some(Shape {
+        construct: Construct::CallStatement,
+        head: &[CALL],
+        group: &[],
+        tail: &[],
+    }),
+    Some(Shape {
+        construct: Construct::ConstAssert,
+        head: &[EXPRESSION],
+        group: &[],
+        tail: &[],
+    }),
+    Some(Shape {
+        construct: Construct::Declaration,
+        head: &[DECLARATION_KIND, NAME, TYPE, OPTIONAL_EXPRESSION],
+        group: &[],
+        tail: &[],
+    }),
+    Some(Shape {
+        construct: Construct::Continuing,
+        head: &[BODY, OPTIONAL_EXPRESSION],
+        group: &[],
+        tail: &[],
+    }),
+    None,
+    None,
+    None,
+    None,
+    None,
+    None,
+    None,
+    None,
+    None,
+    None,
+    None,
+    None,
+    None,
+    Some(Shape {
+        construct: Construct::Literal,
+        head: &[WORD, WORD, WORD, WORD, WORD],
+        group: &[],
+        tail: &[],
+    }),
+    Some(Shape {
+        construct: Construct::Parenthesized,
+        head: &[EXPRESSION],
+        group: &[],
+        tail: &[],
+    }),
+    Some(Shape {
+        construct: Construct::Unary,
+        head: &[UNARY_OPERATOR, EXPRESSION],
+        group: &[],
+        tail: &[],
+    }),
+    Some(Shape {
+        construct: Construct::Binary,
+        head: &[BINARY_OPERATOR, EXPRESSION, EXPRESSION],
+        group: &[],
+        tail: &[],
+    }),
+    Some(Shape {
+        construct: Construct::Name,
+        head: &[NAME],
+        group: &[],
+        tail: &[],
+    }),
+    Some(Shape {
+        construct: Construct::Call,
+        head: &[NAME, ARGUMENT_COUNT],
+        group: &[EXPRESSION],
+        tail: &[],
+    }),
+    None,
+    None,
+    None,
+    None,
+    None,
+    None,
+    None,
+    None,
+    None,
+    None,
+    Some(Shape {
+        construct: Construct::Function,
+        head: &[NAME, FLAGS, TYPE, BODY, ARGUMENT_COUNT],
+        group: &[NAME, PARAMETER_TYPE],
+        tail: &[],
+    }),
 ];
 
-// and the kind of each field: of the head, then of a group, then of the tail.
-static FIELDS: [[Field; 7]; 49] = [
-    [COUNT, MEMBER, ABSENT, ABSENT, ABSENT, ABSENT, ABSENT],
-    [ABSENT, ABSENT, ABSENT, ABSENT, ABSENT, ABSENT, ABSENT],
-    [COUNT, STATEMENT, ABSENT, ABSENT, ABSENT, ABSENT, ABSENT],
-    [
-        ASSIGNMENT_OPERATOR,
-        EXPRESSION,
-        EXPRESSION,
-        ABSENT,
-        ABSENT,
-        ABSENT,
-        ABSENT,
-    ],
-    [EXPRESSION, ABSENT, ABSENT, ABSENT, ABSENT, ABSENT, ABSENT],
-    [EXPRESSION, ABSENT, ABSENT, ABSENT, ABSENT, ABSENT, ABSENT],
-    [
-        IF_COUNT,
-        EXPRESSION,
-        BODY,
-        OPTIONAL_BODY,
-        ABSENT,
-        ABSENT,
-        ABSENT,
-    ],
-    [
-        EXPRESSION,
-        COUNT,
-        OPTIONAL_EXPRESSION,
-        BODY,
-        ABSENT,
-        ABSENT,
-        ABSENT,
-    ],
-    [
-        BODY,
-        OPTIONAL_CONTINUING,
-        ABSENT,
-        ABSENT,
-        ABSENT,
-        ABSENT,
-        ABSENT,
-    ],
-    [
-        OPTIONAL_INITIALIZER,
-        OPTIONAL_EXPRESSION,
-        OPTIONAL_UPDATE,
-        BODY,
-        ABSENT,
-        ABSENT,
-        ABSENT,
-    ],
-    [EXPRESSION, BODY, ABSENT, ABSENT, ABSENT, ABSENT, ABSENT],
-    [ABSENT, ABSENT, ABSENT, ABSENT, ABSENT, ABSENT, ABSENT],
-    [ABSENT, ABSENT, ABSENT, ABSENT, ABSENT, ABSENT, ABSENT],
-    [
-        OPTIONAL_EXPRESSION,
-        ABSENT,
-        ABSENT,
-        ABSENT,
-        ABSENT,
-        ABSENT,
-        ABSENT,
-    ],
-    [ABSENT, ABSENT, ABSENT, ABSENT, ABSENT, ABSENT, ABSENT],
-    [CALL, ABSENT, ABSENT, ABSENT, ABSENT, ABSENT, ABSENT],
-    [EXPRESSION, ABSENT, ABSENT, ABSENT, ABSENT, ABSENT, ABSENT],
-    [
-        DECLARATION_KIND,
-        NAME,
-        TYPE,
-        OPTIONAL_EXPRESSION,
-        ABSENT,
-        ABSENT,
-        ABSENT,
-    ],
-    [
-        BODY,
-        OPTIONAL_EXPRESSION,
-        ABSENT,
-        ABSENT,
-        ABSENT,
-        ABSENT,
-        ABSENT,
-    ],
-    [ABSENT; 7],
-    [ABSENT; 7],
-    [ABSENT; 7],
-    [ABSENT; 7],
-    [ABSENT; 7],
-    [ABSENT; 7],
-    [ABSENT; 7],
-    [ABSENT; 7],
-    [ABSENT; 7],
-    [ABSENT; 7],
-    [ABSENT; 7],
-    [ABSENT; 7],
-    [ABSENT; 7],
-    [WORD, WORD, WORD, WORD, WORD, ABSENT, ABSENT],
-    [EXPRESSION, ABSENT, ABSENT, ABSENT, ABSENT, ABSENT, ABSENT],
-    [
-        UNARY_OPERATOR,
-        EXPRESSION,
-        ABSENT,
-        ABSENT,
-        ABSENT,
-        ABSENT,
-        ABSENT,
-    ],
-    [
-        BINARY_OPERATOR,
-        EXPRESSION,
-        EXPRESSION,
-        ABSENT,
-        ABSENT,
-        ABSENT,
-        ABSENT,
-    ],
-    [NAME, ABSENT, ABSENT, ABSENT, ABSENT, ABSENT, ABSENT],
-    [
-        NAME,
-        ARGUMENT_COUNT,
-        EXPRESSION,
-        ABSENT,
-        ABSENT,
-        ABSENT,
-        ABSENT,
-    ],
-    [ABSENT; 7],
-    [ABSENT; 7],
-    [ABSENT; 7],
-    [ABSENT; 7],
-    [ABSENT; 7],
-    [ABSENT; 7],
-    [ABSENT; 7],
-    [ABSENT; 7],
-    [ABSENT; 7],
-    [ABSENT; 7],
-    [
-        NAME,
-        FLAGS,
-        TYPE,
-        BODY,
-        ARGUMENT_COUNT,
-        NAME,
-        PARAMETER_TYPE,
-    ],
-];
-
-// The lengths of a tag's body.
-pub fn shape_of(tag: u16) -> Shape
-    ensures { result ≡ shape_of (construct_of tag) }
+// The row of a tag, none past the last.
+#[tactic(auto, unfolding(crate::specs::Shapes::row_at))]
+fn row_at(rows: &[Option<Shape>], tag: u16) -> Option<&Shape>
+    ensures { option_map (λ s. row s.now) result ≡ row_at rows.now tag }
 {
-    if tag < 49 {
-        SHAPES[tag as usize]
-    } else {
-        Shape {
-            construct: None,
-            length: 0,
-            head: 0,
-            group: 0,
-        }
-    }
+    rows.get(tag as usize)?.as_ref()
 }
 
-// A field of a tag's body, of which a group is counted once; absent past the last.
-pub fn field_of(tag: u16, i: usize) -> Field
-    ensures { result ≡ slice_index_or (fields_of (construct_of tag)) i Absent }
+// The shape of a tag's body, none for an unknown tag.
+pub fn shape_of(tag: u16) -> Option<&'static Shape>
+    ensures { option_map (λ s. row s.now) result ≡ option_map (λ c. (c, layout_of c)) (construct_of tag) }
 {
-    if tag < 49 && i < 7 {
-        FIELDS[tag as usize][i]
-    } else {
-        Field::Absent
-    }
+    row_at(&SHAPES, tag)
 }
 
 impl Field {
@@ -500,7 +331,7 @@ impl Field {
         ensures { result ≡ fits self word }
     {
         match self {
-            Field::Number { least, most } => least <= word && word <= most,
+            Field::Number { least, most } => (least..=most).contains(&word),
             _ => true,
         }
     }
@@ -512,14 +343,14 @@ impl Child {
         ensures { result ≡ takes self tag }
     {
         match self {
-            Child::Expression => 32 <= tag && tag <= 37,
-            Child::Statement => 1 <= tag && tag <= 17,
+            Child::Expression => matches!(tag, 32..=37),
+            Child::Statement => matches!(tag, 1..=17),
             Child::Body => tag == 2,
             Child::Call => tag == 37,
             Child::Continuing => tag == 18,
             Child::Initializer => matches!(tag, 3 | 4 | 5 | 15 | 17),
             Child::Update => matches!(tag, 3 | 4 | 5 | 15),
-            Child::Member => 1 <= tag && tag <= 17 || tag == 48,
+            Child::Member => matches!(tag, 1..=17 | 48),
         }
     }
 }

@@ -1,52 +1,46 @@
-use Rattle.std.proofs.Common.{is_some, sym, ap, ◌∙◌, inl, inr, ⊎_elim, arith}
-use Rattle.layout.specs.Layout.{end}
-use Rattle.layout.proofs.Refusals.{cut_short, elsewhere, fine, unfit, unknown}
+use Rattle.std.proofs.Common.{◌≡◌, rules, get_or, Some, Err, sym, ap, ◌∙◌, inl, inr}
+use Rattle.std.proofs.lemmas.Result.{err_from_is_err_and}
+use Rattle.layout.specs.Layout.{body_passes, end}
+use Rattle.layout.specs.Verdict.{located, misplaced}
+use Rattle.layout.proofs.Refusals.{elsewhere, faulty, fine, unfit}
+use Rattle.shape.specs.Shapes.{fits}
 use Rattle.layout.proofs.judge.check_body.Goals as goal
-use Rattle.layout.proofs.judge.check_body.Goals.{then-is_misplaced-via-then-is_misplaced, then-is_misplaced-via-else-is_misplaced+then-not-body_passes}
+use Rattle.layout.proofs.judge.check_body.Goals.{then-is_misplaced-via-then-is_misplaced, then-is_misplaced-via-else-is_misplaced+then-not-passes}
 
-pub returns-then-word-at : goal.returns-then-word-at
-returns-then-word-at c =
-    elsewhere c.args.words.now c.args.e c.args.at c.requires.starts
-    (⊎_elim (λ h. inl (λ e. h (c.word.ensures ∙ e))) (λ h. inr h.1) c.then-word-at.either)
+pub returns-then-place-at : goal.returns-then-place-at
+returns-then-place-at c =
+    ap (located c.args.e) (elsewhere c.args.draft.now.words.now c.args.e c.args.at c.requires (λ same. c.if-place-at.true (c.place.ensures ∙ same)))
+    ∙ ap Some (sym c.at.ensures)
 
-pub returns-then-is_none : goal.returns-then-is_none
-returns-then-is_none c =
-    unknown c.args.words.now c.args.e c.args.at c.requires.starts
-    (sym c.word.ensures ∙ c.if-word-at.false) (omega arith)
-    (sym (ap is_some c.construct_at.ensures) ∙ c.if-is_none.ensures)
-
-pub returns-then-words-end : goal.returns-then-words-end
-returns-then-words-end c =
-    cut_short c.args.words.now c.args.e c.args.at c.requires.starts
-    (sym c.word.ensures ∙ c.if-word-at.false) (omega arith)
-    (sym (ap is_some c.construct_at.ensures) ∙ c.if-is_none.ensures)
-    (omega (arith, c.end_of-end.ensures))
-
-pub body_passes-requires : goal.body_passes-requires
-body_passes-requires c =
-    record {
-      place = omega arith;
-      known = sym (ap is_some c.construct_at.ensures) ∙ c.if-is_none.ensures;
-      within = omega (arith, c.end_of-end.ensures);
-    }
+pub returns-in_err-body : goal.returns-in_err-body
+returns-in_err-body c =
+    let p = err_from_is_err_and c.from_residual.result c.from_residual.ensures.1 in
+    let same = p.1 ∙ ap Err p.2 in
+    rw same
+    (faulty c.args.draft.now.words.now c.args.e c.args.at c.requires (sym c.place.ensures ∙ c.if-place-at.false) c.in_err-body.field-0.0 c.in_err-body.ensures)
 
 pub returns-then-is_misplaced : goal.returns-then-is_misplaced
 returns-then-is_misplaced c =
-    unfit c.args.words.now c.args.e c.args.at c.requires.starts
-    (sym c.word.ensures ∙ c.if-word-at.false) (omega arith)
-    (sym (ap is_some c.construct_at.ensures) ∙ c.if-is_none.ensures)
-    (omega (arith, c.end_of-end.ensures))
+    let ws = c.args.draft.now.words.now in
+    let is = c.in_ok-body.ensures in
+    let tag : c.tag.result ≡ get_or ws c.args.at 0 = cc in
+    ap (located c.args.e)
+    (unfit ws c.args.e c.args.at c.requires (sym c.place.ensures ∙ c.if-place-at.false) is.0
     (elim c.then-is_misplaced.branch [
-      | then-is_misplaced-via-then-is_misplaced w ↦ inl (sym c.is_misplaced.ensures ∙ w.if-is_misplaced.true)
-      | then-is_misplaced-via-else-is_misplaced+then-not-body_passes w ↦ inr (sym w.body_passes.ensures ∙ w.if-not-body_passes.true)
-    ])
+      | then-is_misplaced-via-then-is_misplaced w ↦ inl (ap (misplaced c.args.e) (sym tag) ∙ sym c.is_misplaced.ensures ∙ w.if-is_misplaced.true)
+      | then-is_misplaced-via-else-is_misplaced+then-not-passes w ↦
+          inr (sym (w.passes.ensures fits (λ f x b k. search rules) ∙ ap (λ q. body_passes fits c.in_ok-body.body.words.now q) is.2 ∙ ap (λ l. body_passes fits l c.args.at) is.1) ∙ w.if-not-passes.true)
+    ]))
+    ∙ ap Some (sym c.at-then-is_misplaced.ensures)
 
 pub returns : goal.returns
 returns c =
-    let here = sym c.word.ensures ∙ c.if-word-at.false in (
-      fine c.args.words.now c.args.e c.args.at c.requires.starts here (omega arith)
-          (sym (ap is_some c.construct_at.ensures) ∙ c.if-is_none.ensures)
-          (omega (arith, c.end_of-end.ensures)) (sym c.is_misplaced.ensures ∙ c.if-is_misplaced.false)
-          (sym c.body_passes.ensures ∙ c.if-not-body_passes.false),
-      c.end_of-end.ensures ∙ ap (end c.args.words.now) (sym here),
+    let ws = c.args.draft.now.words.now in
+    let here = sym c.place.ensures ∙ c.if-place-at.false in
+    let is = c.in_ok-body.ensures in
+    let tag : c.tag.result ≡ get_or ws c.args.at 0 = cc in (
+      fine ws c.args.e c.args.at c.requires here is.0
+          (ap (misplaced c.args.e) (sym tag) ∙ sym c.is_misplaced.ensures ∙ c.if-is_misplaced.false)
+          (sym (c.passes.ensures fits (λ f x b k. search rules) ∙ ap (λ q. body_passes fits c.in_ok-body.body.words.now q) is.2 ∙ ap (λ l. body_passes fits l c.args.at) is.1) ∙ c.if-not-passes.false),
+      c.end.ensures ∙ ap (λ q. end c.in_ok-body.body.words.now q) is.2 ∙ ap (λ l. end l c.args.at) is.1 ∙ ap (end ws) (sym here),
     )

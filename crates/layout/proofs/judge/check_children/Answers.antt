@@ -1,33 +1,30 @@
-use Rattle.std.proofs.Common.{sym, ap, ◌∙◌, arith}
-use Rattle.layout.specs.Layout.{end}
-use Rattle.layout.specs.Verdict.{answer, child_fault}
-use Rattle.layout.specs.declared.error.BookFault.TheVariants.{WrongChild}
-use Rattle.layout.proofs.Refusals.{child_fine, child_wrong, first_hit, first_more, first-none, laid, sizes}
+use Rattle.std.proofs.Common.{◌≡◌, ℕ, Bool, List, true, false, rules, None, Some, Err, sym, refl, ap, ◌∙◌, arith}
+use Rattle.std.proofs.lemmas.Iterator.{first_from_Range}
+use Rattle.layout.specs.Layout.{body_passes, entries, place}
+use Rattle.layout.specs.Verdict.{answer, child_fault, child_fits, layout_fault, located}
+use Rattle.layout.proofs.Firsts.{first_found}
+use Rattle.layout.proofs.Refusals.{child_fine, child_wrong, each_first}
 use Rattle.layout.proofs.judge.check_children.Goals as goal
 
-pub body_passes-requires : goal.body_passes-requires
-body_passes-requires c =
-    let l = laid c.args.words.now c.loop-e.e (c.requires.laid c.loop-e.e (omega (arith, c.word-count.ensures))) in
-    let s = sizes c.args.words.now c.requires.sized in
-    let at = c.word-at.ensures in
-    record {
-      place = omega arith;
-      known = rw at l.named;
-      within = omega (arith, ap (end c.args.words.now) at, l.whole, s.short);
-    }
+-- whether the children of an entry pass, if its body has no fault
+abbrev Fit : List ℕ → Bool → ℕ → Type 0
+Fit ws b e = layout_fault ws e ≡ None → body_passes (child_fits ws e) ws (place ws e) ≡ b
 
-pub returns-then-not-body_passes : goal.returns-then-not-body_passes
-returns-then-not-body_passes c =
-    let ws = c.args.words.now in
-    let wrong = child_wrong ws c.loop-e.e _ c.word-at.ensures (sym c.body_passes.ensures ∙ c.if-not-body_passes.true) in
-    sym (ap answer (sym c.loop-e.invariant ∙ first_hit (child_fault ws) c.loop-e.e c.word-count.result WrongChild (omega arith) wrong))
+pub returns-in-Some : goal.returns-in-Some
+returns-in-Some c =
+    let ws = c.args.draft.now.words.now in
+    let e = c.in-Some.e in
+    let n = c.entries.ensures in
+    let h = first_from_Range _ c.find.new.self _ (Some e) (Fit ws false) (Fit ws true) c.in-Some.ensures.ran (λ x q k fine. search rules) (λ x q k. (search rules, λ fine. search rules)) in
+    let wrong = child_wrong ws e _ refl (h.2 (c.requires e (omega (arith, h.1)))) in
+    let found = first_found (λ k. located k (child_fault ws k)) (entries ws) 0 e _ (omega arith) (omega (arith, h.1))
+    (λ k a b. ap (located k) (child_fine ws k _ refl (h.3 k a b (c.requires k (omega (arith, h.1))))))
+    (ap (located e) wrong) in
+    ap Err c.at.ensures ∙ sym (ap answer found)
 
-pub loop-e-preserved : goal.loop-e-preserved
-loop-e-preserved c =
-    let ws = c.args.words.now in
-    let right = child_fine ws c.loop-e.e _ c.word-at.ensures (sym c.body_passes.ensures ∙ c.if-not-body_passes.false) in
-    first_more (child_fault ws) c.loop-e.e c.word-count.result (omega arith) right ∙ c.loop-e.invariant
-
-pub returns : goal.returns
-returns c =
-    sym (ap answer (sym c.loop-e.invariant ∙ first-none (child_fault c.args.words.now) c.loop-e.e c.word-count.result (omega arith)))
+pub returns-in-None : goal.returns-in-None
+returns-in-None c =
+    let ws = c.args.draft.now.words.now in
+    let n = c.entries.ensures in
+    let h = first_from_Range _ c.find.new.self _ None (Fit ws false) (Fit ws true) c.in-None.ensures.ran (λ x q k fine. search rules) (λ x q k. (search rules, λ fine. search rules)) in
+    sym (ap answer (each_first (child_fault ws) (entries ws) 0 (λ k a b. child_fine ws k _ refl (h k a (omega arith) (c.requires k (omega arith))))))

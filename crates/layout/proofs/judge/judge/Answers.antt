@@ -8,33 +8,31 @@ use Rattle.layout.proofs.Firsts.{neither}
 use Rattle.layout.proofs.Refusals.{answer_err, answer_ok, first_each, refused-children, refused_layout, refused-sized}
 use Rattle.layout.proofs.judge.judge.Goals as goal
 
-pub returns-then-not-is_sized : goal.returns-then-not-is_sized
-returns-then-not-is_sized c =
+pub returns-in_default : goal.returns-in_default
+returns-in_default c =
     let ws = c.args.words.now in
-    let v : _ ≡ verdict ws = sym (ap answer (refused-sized ws (sym c.is_sized.ensures ∙ c.if-not-is_sized.true))) in
+    let v : _ ≡ verdict ws = ap Err c.at.ensures ∙ sym (ap answer (refused-sized ws c.in_default.ensures)) in
     record { verdict = v; accepted = judged ws _ v }
 
 pub returns-in_err-lay_out : goal.returns-in_err-lay_out
 returns-in_err-lay_out c =
-    let ws = c.args.words.now in
+    let d = c.in-Some.draft in
+    let ws = d.words.now in
     let p = err_from_is_err_and c.from_residual.result c.from_residual.ensures.1 in
-    let some = answer_err (or_else (first (layout_fault ws) 0 (entries ws)) (left_over ws)) c.in_err-lay_out.field-0.0 (sym c.in_err-lay_out.was ∙ c.lay_out.ensures) in
-    let v : _ ≡ verdict ws = p.1 ∙ ap Err p.2 ∙ sym (ap answer (refused_layout ws c.in_err-lay_out.field-0.0 (sym c.is_sized.ensures ∙ c.if-not-is_sized.false) some)) in
-    record { verdict = v; accepted = judged ws _ v }
+    let some = answer_err (or_else (first (layout_fault ws) 0 (entries ws)) (left_over ws)) c.in_err-lay_out.field-0.0 c.in_err-lay_out.ensures in
+    let v : _ ≡ verdict c.args.words.now = p.1 ∙ ap Err p.2 ∙ sym (ap answer (refused_layout ws c.in_err-lay_out.field-0.0 d.has_size some)) ∙ ap verdict c.in-Some.ensures in
+    record { verdict = v; accepted = judged c.args.words.now _ v }
 
 pub check_children-requires : goal.check_children-requires
 check_children-requires c =
-    let ws = c.args.words.now in
-    let none = answer_ok (or_else (first (layout_fault ws) 0 (entries ws)) (left_over ws)) (sym c.in_ok-lay_out.was ∙ c.lay_out.ensures) in
-    record {
-      sized = sym c.is_sized.ensures ∙ c.if-not-is_sized.false;
-      laid =
-          λ e h. first_each (layout_fault ws) (entries ws) 0 e (neither (first (layout_fault ws) 0 (entries ws)) (left_over ws) none).0 (omega arith) (omega arith);
-    }
+    let ws = c.in-Some.draft.words.now in
+    let none = answer_ok (or_else (first (layout_fault ws) 0 (entries ws)) (left_over ws)) c.in_ok-lay_out.ensures in
+    λ e h. first_each (layout_fault ws) (entries ws) 0 e (neither (first (layout_fault ws) 0 (entries ws)) (left_over ws) none).0 (omega arith) (omega arith)
 
 pub returns : goal.returns
 returns c =
-    let ws = c.args.words.now in
-    let none = answer_ok (or_else (first (layout_fault ws) 0 (entries ws)) (left_over ws)) (sym c.in_ok-lay_out.was ∙ c.lay_out.ensures) in
-    let v : _ ≡ verdict ws = c.check_children.ensures ∙ sym (ap answer (refused-children ws (sym c.is_sized.ensures ∙ c.if-not-is_sized.false) none)) in
-    record { verdict = v; accepted = judged ws _ v }
+    let d = c.in-Some.draft in
+    let ws = d.words.now in
+    let none = answer_ok (or_else (first (layout_fault ws) 0 (entries ws)) (left_over ws)) c.in_ok-lay_out.ensures in
+    let v : _ ≡ verdict c.args.words.now = c.check_children.ensures ∙ sym (ap answer (refused-children ws d.has_size none)) ∙ ap verdict c.in-Some.ensures in
+    record { verdict = v; accepted = judged c.args.words.now _ v }

@@ -5,5 +5,5 @@ use Rattle.layout.proofs.judge.lay_out.Given as goal
 
 abbrev pub invariant-loop-e : goal.invariant-loop-e
 invariant-loop-e l =
-    (l.at ≡ start l.words l.e)
-    × (first (layout_fault l.words) l.e (l.n - l.e) ≡ first (layout_fault l.words) 0 (entries l.words))
+    (l.at ≡ start l.draft.words.now l.e)
+    × (first (layout_fault l.draft.words.now) l.e (l.n - l.e) ≡ first (layout_fault l.draft.words.now) 0 (entries l.draft.words.now))

@@ -1,12 +1,11 @@
 // The listing of a book: a line for each entry.
-use book::book::Book;
 use book::node::{Items, Node, Pairs, optional};
 use std::alloc::{AllocError, Global};
 use syntax::{BinaryOperator, DeclarationKind, ShortCircuit, UnaryOperator};
 
 // What stands in a part of a node.
-#[derive(Clone, Copy)]
-enum Value {
+#[derive(Drop)]
+enum Value<'a> {
     Absent,
     Set,
     Number(u16),
@@ -16,10 +15,10 @@ enum Value {
     ShortCircuit(ShortCircuit),
     Assignment(Option<BinaryOperator>),
     Kind(DeclarationKind),
-    Items(Items),
-    Pairs(Pairs),
+    Items(Items<'a>),
+    Pairs(Pairs<'a>),
     // pairs of which an absent first part is the default
-    Cases(Pairs),
+    Cases(Pairs<'a>),
 }
 
 // The name of a part.
@@ -87,54 +86,53 @@ impl Label {
 }
 
 // A part of a node under its name.
-#[derive(Clone, Copy)]
-struct Part {
+#[derive(Drop)]
+struct Part<'a> {
     label: Label,
-    value: Value,
+    value: Value<'a>,
 }
 
-const NOTHING: Part = Part {
-    label: Label::Body,
-    value: Value::Absent,
-};
+fn nothing<'a>() -> Part<'a> {
+    field(Label::Body, Value::Absent)
+}
 
 fn field(label: Label, value: Value) -> Part {
     Part { label, value }
 }
 
-fn number(label: Label, value: u16) -> Part {
+fn number<'a>(label: Label, value: u16) -> Part<'a> {
     field(label, Value::Number(value))
 }
 
-fn maybe(label: Label, value: Option<u16>) -> Part {
+fn maybe<'a>(label: Label, value: Option<u16>) -> Part<'a> {
     match value {
         Some(value) => number(label, value),
-        None => NOTHING,
+        None => nothing(),
     }
 }
 
-fn flag(label: Label, set: bool) -> Part {
+fn flag<'a>(label: Label, set: bool) -> Part<'a> {
     if set {
         field(label, Value::Set)
     } else {
-        NOTHING
+        nothing()
     }
 }
 
 fn one(a: Part) -> [Part; 6] {
-    [a, NOTHING, NOTHING, NOTHING, NOTHING, NOTHING]
+    [a, nothing(), nothing(), nothing(), nothing(), nothing()]
 }
 
-fn two(a: Part, b: Part) -> [Part; 6] {
-    [a, b, NOTHING, NOTHING, NOTHING, NOTHING]
+fn two<'a>(a: Part<'a>, b: Part<'a>) -> [Part<'a>; 6] {
+    [a, b, nothing(), nothing(), nothing(), nothing()]
 }
 
-fn three(a: Part, b: Part, c: Part) -> [Part; 6] {
-    [a, b, c, NOTHING, NOTHING, NOTHING]
+fn three<'a>(a: Part<'a>, b: Part<'a>, c: Part<'a>) -> [Part<'a>; 6] {
+    [a, b, c, nothing(), nothing(), nothing()]
 }
 
-fn four(a: Part, b: Part, c: Part, d: Part) -> [Part; 6] {
-    [a, b, c, d, NOTHING, NOTHING]
+fn four<'a>(a: Part<'a>, b: Part<'a>, c: Part<'a>, d: Part<'a>) -> [Part<'a>; 6] {
+    [a, b, c, d, nothing(), nothing()]
 }
 
 fn binary(operator: Value, left: u16, right: u16) -> [Part; 6] {
@@ -146,7 +144,7 @@ fn binary(operator: Value, left: u16, right: u16) -> [Part; 6] {
 }
 
 // How a construct is called.
-fn construct_of(node: Node) -> &'static str {
+fn construct_of(node: &Node) -> &'static str {
     match node {
         Node::Unit { .. } => "unit",
         Node::Empty => "empty",
@@ -181,7 +179,7 @@ fn construct_of(node: Node) -> &'static str {
 fn parts_of(node: Node) -> [Part; 6] {
     match node {
         Node::Unit { children } => one(field(Label::Children, Value::Items(children))),
-        Node::Empty => one(NOTHING),
+        Node::Empty => one(nothing()),
         Node::Compound { statements } => one(field(Label::Statements, Value::Items(statements))),
         Node::Assignment { operator, lhs, rhs } => {
             three(
@@ -224,10 +222,10 @@ fn parts_of(node: Node) -> [Part; 6] {
             number(Label::Condition, condition),
             number(Label::Body, body),
         ),
-        Node::Break => one(NOTHING),
-        Node::Continue => one(NOTHING),
+        Node::Break => one(nothing()),
+        Node::Continue => one(nothing()),
         Node::Return { expression } => one(maybe(Label::Expression, expression)),
-        Node::Discard => one(NOTHING),
+        Node::Discard => one(nothing()),
         Node::CallStatement { call } => one(number(Label::Call, call)),
         Node::ConstAssert { expression } => one(number(Label::Expression, expression)),
         Node::Declaration {
@@ -303,15 +301,13 @@ fn signed(words: [u16; 4]) -> i64 {
     i64::from_le_bytes([a0, a1, b0, b1, c0, c1, d0, d1])
 }
 
-fn items_text(heap: Global, book: &Book, items: Items) -> Result<String, AllocError> {
+fn items_text(heap: Global, items: Items) -> Result<String, AllocError> {
     let mut text = String::from_str(heap, "[")?;
-    for i in 0..items.count {
-        if let Some(entry) = book.item(items, i) {
-            if i > 0 {
-                text.push_str(" ")?;
-            }
-            text.push_str(entry.to_string(heap)?.as_str())?;
+    for (i, entry) in items.enumerate() {
+        if i > 0 {
+            text.push_str(" ")?;
         }
+        text.push_str(entry.to_string(heap)?.as_str())?;
     }
     text.push_str("]")?;
     Ok(text)
@@ -325,17 +321,15 @@ fn first_text(heap: Global, first: u16, cases: bool) -> Result<String, AllocErro
     }
 }
 
-fn pairs_text(heap: Global, book: &Book, pairs: Pairs, cases: bool) -> Result<String, AllocError> {
+fn pairs_text(heap: Global, pairs: Pairs, cases: bool) -> Result<String, AllocError> {
     let mut text = String::from_str(heap, "[")?;
-    for i in 0..pairs.count {
-        if let Some((first, second)) = book.pair(pairs, i) {
-            if i > 0 {
-                text.push_str(" ")?;
-            }
-            text.push_str(first_text(heap, first, cases)?.as_str())?;
-            text.push_str(":")?;
-            text.push_str(second.to_string(heap)?.as_str())?;
+    for (i, (first, second)) in pairs.enumerate() {
+        if i > 0 {
+            text.push_str(" ")?;
         }
+        text.push_str(first_text(heap, first, cases)?.as_str())?;
+        text.push_str(":")?;
+        text.push_str(second.to_string(heap)?.as_str())?;
     }
     text.push_str("]")?;
     Ok(text)
@@ -343,48 +337,47 @@ fn pairs_text(heap: Global, book: &Book, pairs: Pairs, cases: bool) -> Result<St
 
 fn assignment_text(heap: Global, operator: Option<BinaryOperator>) -> Result<String, AllocError> {
     let mut text = match operator {
-        Some(operator) => String::from_str(heap, operator.symbol())?,
+        Some(operator) => operator.to_string(heap)?,
         None => String::new(heap),
     };
     text.push_str("=")?;
     Ok(text)
 }
 
-fn value_text(heap: Global, book: &Book, value: Value) -> Result<String, AllocError> {
+fn value_text(heap: Global, value: &Value) -> Result<String, AllocError> {
     match value {
         Value::Absent | Value::Set => Ok(String::new(heap)),
         Value::Number(n) => n.to_string(heap),
-        Value::Literal(words) => signed(words).to_string(heap),
-        Value::Unary(operator) => String::from_str(heap, operator.symbol()),
-        Value::Binary(operator) => String::from_str(heap, operator.symbol()),
-        Value::ShortCircuit(operator) => String::from_str(heap, operator.symbol()),
-        Value::Assignment(operator) => assignment_text(heap, operator),
-        Value::Kind(kind) => String::from_str(heap, kind.symbol()),
-        Value::Items(items) => items_text(heap, book, items),
-        Value::Pairs(pairs) => pairs_text(heap, book, pairs, false),
-        Value::Cases(pairs) => pairs_text(heap, book, pairs, true),
+        Value::Literal(words) => signed(*words).to_string(heap),
+        Value::Unary(operator) => operator.to_string(heap),
+        Value::Binary(operator) => operator.to_string(heap),
+        Value::ShortCircuit(operator) => operator.to_string(heap),
+        Value::Assignment(operator) => assignment_text(heap, *operator),
+        Value::Kind(kind) => kind.to_string(heap),
+        Value::Items(items) => items_text(heap, items.iter()),
+        Value::Pairs(pairs) => pairs_text(heap, pairs.iter(), false),
+        Value::Cases(pairs) => pairs_text(heap, pairs.iter(), true),
     }
 }
 
-fn part_text(heap: Global, book: &Book, part: Part) -> Result<String, AllocError> {
+fn part_text(heap: Global, part: &Part) -> Result<String, AllocError> {
     let name = part.label.name();
-    match part.value {
+    match &part.value {
         Value::Absent => Ok(String::new(heap)),
         Value::Set => format!(in heap; " {name}"),
         value => {
-            let text = value_text(heap, book, value)?;
+            let text = value_text(heap, value)?;
             format!(in heap; " {name}={text}")
         }
     }
 }
 
 // The line of an entry: its number, its construct, and the parts that it has.
-pub fn line_of(heap: Global, book: &Book, entry: u16, node: Node) -> Result<String, AllocError> {
-    let construct = construct_of(node);
+pub fn line_of(heap: Global, entry: u16, node: Node) -> Result<String, AllocError> {
+    let construct = construct_of(&node);
     let mut line = format!(in heap; "{entry} {construct}")?;
-    let parts = parts_of(node);
-    for i in 0..parts.len() {
-        let text = part_text(heap, book, parts[i])?;
+    for part in &parts_of(node) {
+        let text = part_text(heap, part)?;
         line.push_str(text.as_str())?;
     }
     Ok(line)

@@ -86,7 +86,7 @@ fn show(rt: &HostRuntime, path: &str) -> anyhow::Result<()> {
     }
     for entry in 0..book.entries() {
         if let Some(node) = book.node(entry) {
-            let line = listing::line_of(rt.alloc(), &book, entry, node)?;
+            let line = listing::line_of(rt.alloc(), entry, node)?;
             println!(rt; "{line}")?;
         }
     }

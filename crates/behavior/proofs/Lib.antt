@@ -3,3 +3,4 @@ pub mod Follows
 pub mod Openings
 pub mod Summed
 pub mod Walked
+pub mod Kept

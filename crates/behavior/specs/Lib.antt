@@ -1,3 +1,4 @@
 pub mod Rules
 pub mod Below
 pub mod Summaries
+pub mod Written

@@ -21,9 +21,7 @@ pub fn behaviors(heap: Global, book: &Book) -> Result<Vec<Option<Behavior>>, All
     ensures { IfOk result (λ v. v.items ≡ map (behavior_at book.now.words.now) (range_with_len 0 (entries book.now.words.now))) }
 {
     let mut summaries = Summaries::new(*book);
-    let mut all = Vec::new(heap);
-    for e in 0..book.entries() {
-        all.push(summaries.set_of(e))?;
-    }
-    Ok(all)
+    (0..book.entries())
+        .map(|e| summaries.set_of(e))
+        .collect(heap)
 }

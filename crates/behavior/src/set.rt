@@ -1,6 +1,9 @@
 // The set of the ways in which a statement may end.
-ghost use Rattle.std.specs.Prelude.{◌≡◌};
+ghost use Rattle.std.specs.Prelude.{◌≡◌, Some};
 ghost use Rattle.behavior.specs.Rules.{beyond_next, followed, looped, plus_next, tested, turned, union};
+ghost use Rattle.behavior.specs.Written.{member_text, set_text};
+
+use std::fmt;
 
 #[derive(Clone, Copy, PartialEq, Eq, Debug)]
 pub struct Behavior {
@@ -109,5 +112,53 @@ impl Behavior {
         ensures { result ≡ beyond_next self }
     {
         self.breaks || self.continues || self.returns
+    }
+}
+
+// A way that may be in a set, as it is written there.
+#[derive(Clone, Copy)]
+struct Member {
+    is_member: bool,
+    follows: bool,
+    name: &'static str,
+}
+
+impl fmt::Display for Member {
+    ghost output = { λ member. Some (member_text member.is_member member.follows member.name.now) };
+
+    fn fmt<W: fmt::Write>(&self, f: &mut fmt::Formatter<W>) -> fmt::Result {
+        match (self.is_member, self.follows) {
+            (false, _) => Ok(()),
+            (true, false) => f.write_str(self.name),
+            (true, true) => write!(f, ", {}", self.name),
+        }
+    }
+}
+
+impl fmt::Display for Behavior {
+    ghost output = { λ set. Some (set_text set) };
+
+    fn fmt<W: fmt::Write>(&self, f: &mut fmt::Formatter<W>) -> fmt::Result {
+        let next = Member {
+            is_member: self.next,
+            follows: false,
+            name: "Next",
+        };
+        let breaks = Member {
+            is_member: self.breaks,
+            follows: self.next,
+            name: "Break",
+        };
+        let continues = Member {
+            is_member: self.continues,
+            follows: self.next || self.breaks,
+            name: "Continue",
+        };
+        let returns = Member {
+            is_member: self.returns,
+            follows: self.next || self.breaks || self.continues,
+            name: "Return",
+        };
+        write!(f, "{{{next}{breaks}{continues}{returns}}}")
     }
 }

@@ -207,7 +207,8 @@ impl<'a> Summaries<'a> {
             }
             Control::Switch(clauses) => {
                 let default = has_default(clauses.iter());
-                self.of_clauses(entry, clauses, Summary::of(NONE)).switched(default)
+                self.of_clauses(entry, clauses, Summary::of(NONE))
+                    .switched(default)
             }
             Control::Loop(body, None) => self.of(body).looped(),
             Control::Loop(body, Some(last)) => {

@@ -43,9 +43,7 @@ pub fn faults(heap: Global, book: &Book) -> Result<Vec<Option<Unfit>>, AllocErro
     ensures { IfOk result (λ v. v.items ≡ map (fault_at book.now.words.now) (range_with_len 0 (entries book.now.words.now))) }
 {
     let mut summaries = Summaries::new(*book);
-    let mut all = Vec::new(heap);
-    for e in 0..book.entries() {
-        all.push(fault_at(&mut summaries, e))?;
-    }
-    Ok(all)
+    (0..book.entries())
+        .map(|e| fault_at(&mut summaries, e))
+        .collect(heap)
 }

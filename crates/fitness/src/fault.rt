@@ -1,10 +1,12 @@
 // What is wrong with a function or a continuing.
-ghost use Rattle.std.specs.Prelude.{◌≡◌};
+ghost use Rattle.std.specs.Prelude.{◌≡◌, Some};
 ghost use Rattle.fitness.specs.Fit.{continuing_fault, function_fault, unfit};
+ghost use Rattle.fitness.specs.Reasons.{reason_name};
 ghost use Rattle.std.specs.Option.{option_map};
 
 use behavior::set::Behavior;
 use behavior::summary::Summary;
+use std::fmt;
 
 #[derive(Clone, Copy, PartialEq, Eq, Debug)]
 pub enum Reason {
@@ -18,6 +20,20 @@ pub enum Reason {
     UnexpectedValue,
     // a continuing has a way that does not go on
     LeavingContinuing,
+}
+
+impl fmt::Display for Reason {
+    ghost output = { λ reason. Some (reason_name reason) };
+
+    fn fmt<W: fmt::Write>(&self, f: &mut fmt::Formatter<W>) -> fmt::Result {
+        f.write_str(match self {
+            Reason::BreakOrContinue => "BreakOrContinue",
+            Reason::NoReturn => "NoReturn",
+            Reason::MissingValue => "MissingValue",
+            Reason::UnexpectedValue => "UnexpectedValue",
+            Reason::LeavingContinuing => "LeavingContinuing",
+        })
+    }
 }
 
 // A function or continuing that is not fit, and the entry that shows it.

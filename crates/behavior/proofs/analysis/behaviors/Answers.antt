@@ -1,16 +1,15 @@
-use Rattle.std.proofs.Common.{[], ◌∷◌, ◌++◌, map, is_ok, sym, ap, ◌∙◌, arith, rules}
-use Rattle.std.specs.List.{range_with_len}
-use Rattle.std.proofs.ResultArms.{chosen}
-use Rattle.std.proofs.lemmas.List.FromFn.{map-range_with_len_more}
+use Rattle.std.proofs.Common.{◌≡◌, ap, ◌∙◌, rules, arith}
+use Rattle.std.proofs.lemmas.Iterator.{YieldsList-from_range, items_from_collect}
+use borrow.Author.Tests.{tests}
 use Rattle.behavior.specs.Rules.{behavior_at}
+use Rattle.behavior.proofs.Kept.{YieldsList-from_map_keeping}
 use Rattle.behavior.proofs.analysis.behaviors.Goals as goal
 
-pub loop-e-preserved : goal.loop-e-preserved
-loop-e-preserved c =
+pub returns : goal.returns
+returns c =
     let ws = c.args.book.now.words.now in
-    let pushed = chosen _ _ _ _ c.push.ensures.items (ap is_ok c.in_ok-push.was) in (
-      search rules,
-      pushed ∙ ap (λ l. l ++ (c.set_of.result ∷ [])) c.loop-e.invariant.1
-          ∙ ap (λ x. map (behavior_at ws) (range_with_len 0 c.loop-e.e) ++ (x ∷ [])) (c.set_of.ensures.value ∙ ap (λ w. behavior_at w c.loop-e.e) c.loop-e.invariant.0)
-          ∙ sym (map-range_with_len_more (behavior_at ws) 0 c.loop-e.e c.loop-e.e (omega arith)),
-    )
+    rw (← c.entries.ensures)
+    (items_from_collect _ c.collect.ensures.ran
+    (YieldsList-from_map_keeping _ _ _ (λ f. f.0.now ≡ ws) (behavior_at ws) (λ f x r q k m. (search (rules, tests), search (rules, tests)))
+    (YieldsList-from_range 0 c.entries.result c.entries.result c.map.ensures.source (omega arith))
+    (ap (λ f. f.0.now) c.map.ensures.closure ∙ c.new-summaries.ensures)))

@@ -1,15 +1,18 @@
 use book::book::Book;
+use layout::error::{BookError, BookFault};
 use std::alloc::{AllocError, Global};
 use std::process::Abort;
 use std::test::Fail;
 
-// The number of the refusal and its entry, or 0 and the number of entries.
-fn verdict(words: &[u16]) -> (u16, u16) {
-    let mut book = Book::empty();
-    match book.load(words) {
-        Ok(()) => (0, book.entries()),
-        Err(error) => (u16::from(error.fault), error.entry),
-    }
+// What a book's words are said to be: how many entries it has, or why they are no book.
+type Verdict = Result<u16, BookError>;
+
+fn verdict(words: &[u16]) -> Verdict {
+    Ok(Book::new(words)?.entries())
+}
+
+fn refused(fault: BookFault, entry: u16) -> Verdict {
+    Err(BookError { fault, entry })
 }
 
 // A book of n entries: a unit without children, and then empty statements.
@@ -59,7 +62,7 @@ fn calls(heap: Global, n: u16, names: u16) -> Result<Vec<u16>, AllocError> {
 }
 
 // Whether every list of words has its verdict.
-fn all(rt: &impl Abort, cases: &[(&[u16], (u16, u16))]) {
+fn all(rt: &impl Abort, cases: &[(&[u16], Verdict)]) {
     for (words, wanted) in cases {
         assert_eq!(rt; verdict(words), *wanted);
     }
@@ -70,17 +73,17 @@ fn no_words_and_few(rt: HostRuntime) {
     all(
         &rt,
         &[
-            (&[], (1, 0)),
-            (&[0], (1, 0)),
-            (&[1], (1, 0)),
-            (&[1, 2], (2, 0)),
-            (&[1, 2, 0], (2, 0)),
-            (&[1, 2, 0, 0], (0, 1)),
-            (&[1, 2, 0, 0, 0], (2, 0)),
-            (&[1, 3, 0, 0], (2, 0)),
-            (&[1, 2, 1], (3, 0)),
-            (&[1, 2, 19], (3, 0)),
-            (&[1, 2, 0, 65], (2, 0)),
+            (&[], refused(BookFault::BadLength, 0)),
+            (&[0], refused(BookFault::BadLength, 0)),
+            (&[1], refused(BookFault::BadLength, 0)),
+            (&[1, 2], refused(BookFault::BadPlace, 0)),
+            (&[1, 2, 0], refused(BookFault::BadPlace, 0)),
+            (&[1, 2, 0, 0], Ok(1)),
+            (&[1, 2, 0, 0, 0], refused(BookFault::BadPlace, 0)),
+            (&[1, 3, 0, 0], refused(BookFault::BadPlace, 0)),
+            (&[1, 2, 1], refused(BookFault::BadField, 0)),
+            (&[1, 2, 19], refused(BookFault::BadField, 0)),
+            (&[1, 2, 0, 65], refused(BookFault::BadPlace, 0)),
         ],
     );
 }
@@ -88,9 +91,15 @@ fn no_words_and_few(rt: HostRuntime) {
 #[test]
 fn numbers_of_entries(rt: HostRuntime) -> Result<(), Fail> {
     let heap = rt.alloc();
-    assert_eq!(rt; verdict(empties(heap, 4096)?.as_slice()), (0, 4096));
-    assert_eq!(rt; verdict(empties(heap, 4097)?.as_slice()), (1, 0));
-    assert_eq!(rt; verdict(empties(heap, 0)?.as_slice()), (1, 0));
+    assert_eq!(rt; verdict(empties(heap, 4096)?.as_slice()), Ok(4096));
+    assert_eq!(rt;
+        verdict(empties(heap, 4097)?.as_slice()),
+        refused(BookFault::BadLength, 0)
+    );
+    assert_eq!(rt;
+        verdict(empties(heap, 0)?.as_slice()),
+        refused(BookFault::BadLength, 0)
+    );
     Ok(())
 }
 
@@ -99,10 +108,13 @@ fn numbers_of_words(rt: HostRuntime) -> Result<(), Fail> {
     let heap = rt.alloc();
     let longest = calls(heap, 3275, 17)?;
     assert_eq!(rt; longest.len(), 65535);
-    assert_eq!(rt; verdict(longest.as_slice()), (0, 3292));
+    assert_eq!(rt; verdict(longest.as_slice()), Ok(3292));
     let longer = calls(heap, 3274, 24)?;
     assert_eq!(rt; longer.len(), 65536);
-    assert_eq!(rt; verdict(longer.as_slice()), (1, 0));
+    assert_eq!(rt;
+        verdict(longer.as_slice()),
+        refused(BookFault::BadLength, 0)
+    );
     Ok(())
 }
 
@@ -112,16 +124,16 @@ fn places_and_lengths(rt: HostRuntime) {
         &rt,
         &[
             // an empty statement behind the unit: its place, its tag, a word too many, a tag that is cut off
-            (&[2, 3, 5, 0, 0, 1], (0, 2)),
-            (&[2, 3, 4, 0, 0, 1], (2, 1)),
-            (&[2, 3, 5, 0, 0], (2, 1)),
-            (&[2, 3, 5, 0, 0, 1, 1], (2, 1)),
+            (&[2, 3, 5, 0, 0, 1], Ok(2)),
+            (&[2, 3, 4, 0, 0, 1], refused(BookFault::BadPlace, 1)),
+            (&[2, 3, 5, 0, 0], refused(BookFault::BadPlace, 1)),
+            (&[2, 3, 5, 0, 0, 1, 1], refused(BookFault::BadPlace, 1)),
             // an unknown tag is refused before its length could matter, a known one is first measured
-            (&[2, 3, 5, 0, 0, 19], (3, 1)),
-            (&[2, 3, 5, 0, 0, 0], (2, 1)),
-            (&[2, 3, 5, 0, 0, 0, 0], (3, 1)),
+            (&[2, 3, 5, 0, 0, 19], refused(BookFault::BadField, 1)),
+            (&[2, 3, 5, 0, 0, 0], refused(BookFault::BadPlace, 1)),
+            (&[2, 3, 5, 0, 0, 0, 0], refused(BookFault::BadField, 1)),
             // words left over come before a wrong child
-            (&[2, 3, 6, 0, 1, 9, 1, 1], (2, 1)),
+            (&[2, 3, 6, 0, 1, 9, 1, 1], refused(BookFault::BadPlace, 1)),
         ],
     );
 }
@@ -132,23 +144,32 @@ fn fields(rt: HostRuntime) {
         &rt,
         &[
             // a name, an operator, flags, a kind of declaration, and `if` without a clause
-            (&[2, 3, 5, 0, 0, 36, 65534], (0, 2)),
-            (&[2, 3, 5, 0, 0, 36, 65535], (3, 1)),
-            (&[3, 4, 6, 9, 0, 0, 34, 2, 2, 36, 1], (0, 3)),
-            (&[3, 4, 6, 9, 0, 0, 34, 3, 2, 36, 1], (3, 1)),
-            (&[3, 4, 6, 12, 0, 0, 48, 9, 3, 65535, 2, 0, 2, 0], (0, 3)),
-            (&[3, 4, 6, 12, 0, 0, 48, 9, 4, 65535, 2, 0, 2, 0], (3, 1)),
-            (&[2, 3, 5, 0, 0, 17, 2, 1, 0, 0], (0, 2)),
-            (&[2, 3, 5, 0, 0, 17, 3, 1, 0, 0], (3, 1)),
-            (&[2, 3, 5, 0, 0, 6, 0, 0], (3, 1)),
+            (&[2, 3, 5, 0, 0, 36, 65534], Ok(2)),
+            (&[2, 3, 5, 0, 0, 36, 65535], refused(BookFault::BadField, 1)),
+            (&[3, 4, 6, 9, 0, 0, 34, 2, 2, 36, 1], Ok(3)),
+            (
+                &[3, 4, 6, 9, 0, 0, 34, 3, 2, 36, 1],
+                refused(BookFault::BadField, 1),
+            ),
+            (&[3, 4, 6, 12, 0, 0, 48, 9, 3, 65535, 2, 0, 2, 0], Ok(3)),
+            (
+                &[3, 4, 6, 12, 0, 0, 48, 9, 4, 65535, 2, 0, 2, 0],
+                refused(BookFault::BadField, 1),
+            ),
+            (&[2, 3, 5, 0, 0, 17, 2, 1, 0, 0], Ok(2)),
+            (
+                &[2, 3, 5, 0, 0, 17, 3, 1, 0, 0],
+                refused(BookFault::BadField, 1),
+            ),
+            (&[2, 3, 5, 0, 0, 6, 0, 0], refused(BookFault::BadField, 1)),
             // the type of a parameter is never absent
             (
                 &[3, 4, 6, 14, 0, 0, 48, 9, 0, 65535, 2, 1, 5, 65534, 2, 0],
-                (0, 3),
+                Ok(3),
             ),
             (
                 &[3, 4, 6, 14, 0, 0, 48, 9, 0, 65535, 2, 1, 5, 65535, 2, 0],
-                (3, 1),
+                refused(BookFault::BadField, 1),
             ),
         ],
     );
@@ -160,23 +181,29 @@ fn children(rt: HostRuntime) {
         &rt,
         &[
             // a child of the unit: not larger, not below the number of entries, absent where it may not be, an expression
-            (&[2, 3, 6, 0, 1, 1, 1], (0, 2)),
-            (&[2, 3, 6, 0, 1, 2, 1], (4, 0)),
-            (&[2, 3, 6, 0, 1, 0, 1], (4, 0)),
-            (&[2, 3, 6, 0, 1, 1, 36, 5], (4, 0)),
+            (&[2, 3, 6, 0, 1, 1, 1], Ok(2)),
+            (&[2, 3, 6, 0, 1, 2, 1], refused(BookFault::WrongChild, 0)),
+            (&[2, 3, 6, 0, 1, 0, 1], refused(BookFault::WrongChild, 0)),
+            (
+                &[2, 3, 6, 0, 1, 1, 36, 5],
+                refused(BookFault::WrongChild, 0),
+            ),
             // a parent is no child of its child
-            (&[3, 4, 6, 8, 0, 0, 33, 2, 33, 1], (4, 2)),
+            (
+                &[3, 4, 6, 8, 0, 0, 33, 2, 33, 1],
+                refused(BookFault::WrongChild, 2),
+            ),
             // a value that is absent, and one that is there
-            (&[2, 3, 5, 0, 0, 13, 0], (0, 2)),
-            (&[3, 4, 6, 8, 0, 0, 13, 2, 36, 5], (0, 3)),
+            (&[2, 3, 5, 0, 0, 13, 0], Ok(2)),
+            (&[3, 4, 6, 8, 0, 0, 13, 2, 36, 5], Ok(3)),
             // the update of `for` is no declaration, its initializer may be one
             (
                 &[4, 5, 7, 12, 17, 0, 0, 9, 2, 0, 0, 3, 17, 2, 1, 0, 0, 2, 0],
-                (0, 4),
+                Ok(4),
             ),
             (
                 &[4, 5, 7, 12, 17, 0, 0, 9, 0, 0, 2, 3, 17, 2, 1, 0, 0, 2, 0],
-                (4, 1),
+                refused(BookFault::WrongChild, 1),
             ),
         ],
     );
@@ -189,4 +216,15 @@ fn a_refused_load_leaves_the_book(rt: HostRuntime) {
     assert!(rt; book.load(&[2, 3, 5, 0, 0, 19]).is_err());
     assert_eq!(rt; book.entries(), 2);
     assert_eq!(rt; book.length(), 6);
+}
+
+#[test]
+fn refusals_have_numbers(rt: HostRuntime) {
+    let faults = [
+        BookFault::BadLength,
+        BookFault::BadPlace,
+        BookFault::BadField,
+        BookFault::WrongChild,
+    ];
+    assert_eq!(rt; faults.map(u16::from), [1, 2, 3, 4]);
 }

@@ -2,4 +2,5 @@ pub mod Opened
 pub mod Newest
 pub mod Laws
 pub mod Scoping
+pub mod Finding
 pub mod Writing

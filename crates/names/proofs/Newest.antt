@@ -1,7 +1,7 @@
 -- The newest binding of a name, with one binding more at the end.
-use Rattle.std.proofs.Common.{◌≡◌, ℕ, zero, suc, ◌+◌, ◌<◌, ◌≤◌, ◌≢◌, cond, List, [], ◌∷◌, ◌++◌, length, get_or, drop, Some, None, Option, sym, refl, ap, ◌∙◌, add-zero, arith, eq-eqb, ne_eqb}
+use Rattle.std.proofs.Common.{◌≡◌, ℕ, zero, suc, ◌+◌, ◌-◌, ◌<◌, ◌≤◌, ◌≢◌, cond, List, [], ◌∷◌, ◌++◌, length, get_or, take, drop, Some, None, Option, sym, refl, ap, ◌∙◌, add-zero, arith, eq-eqb, ne_eqb}
 use Rattle.std.specs.Option.{option_or}
-use Rattle.std.proofs.lemmas.List.{drop-append-le, length-drop}
+use Rattle.std.proofs.lemmas.List.{take_more, drop-append-le, drop_all, length-drop, length-take-le, length-take}
 use Rattle.names.specs.Rules.{IsLastNamed, if_named, newest, newest_from}
 use Rattle.names.specs.declared.binding.Binding.{Binding}
 
@@ -35,17 +35,17 @@ module _ {V : Type 0} (name : ℕ) where
   unnamed place b e = ap (λ t. cond t (Some (record { place = place; binding = b })) None) (ne_eqb b.name name e)
 
   -- where the name stands nowhere
-  pub newest-none : (place : ℕ) (bs : List (Binding V)) → ((k : ℕ) (d : Binding V) → k < length bs → (get_or bs k d).name ≢ name) → newest name place bs ≡ None
-  newest-none place [] never = refl
-  newest-none place (b ∷ bs) never =
-      ap (λ o. option_or o (if_named name place b)) (newest-none (place + 1) bs (λ k d h. never (suc k) d (omega arith)))
+  pub newest-nowhere : (place : ℕ) (bs : List (Binding V)) → ((k : ℕ) (d : Binding V) → k < length bs → (get_or bs k d).name ≢ name) → newest name place bs ≡ None
+  newest-nowhere place [] never = refl
+  newest-nowhere place (b ∷ bs) never =
+      ap (λ o. option_or o (if_named name place b)) (newest-nowhere (place + 1) bs (λ k d h. never (suc k) d (omega arith)))
       ∙ unnamed place b (never 0 b (omega arith))
 
   -- where it stands at a place, and behind that nowhere
   pub newest-last : (place : ℕ) (bs : List (Binding V)) (i : ℕ) (b : Binding V) → IsLastNamed name bs (Some i) → b ≡ get_or bs i b → newest name place bs ≡ Some (record { place = place + i; binding = b })
   newest-last place [] i b last read = absurd (omega (arith, last.0))
   newest-last place (x ∷ bs) zero b last read =
-      ap (λ o. option_or o (if_named name place x)) (newest-none (place + 1) bs (λ k d h. last.2 (suc k) d (omega arith) (omega arith)))
+      ap (λ o. option_or o (if_named name place x)) (newest-nowhere (place + 1) bs (λ k d h. last.2 (suc k) d (omega arith) (omega arith)))
       ∙ ap (if_named name place) (sym read)
       ∙ named place b (ap (λ y. y.name) read ∙ last.1 b)
       ∙ ap (λ k. Some (record { place = k; binding = b })) (sym (add-zero place))
@@ -53,3 +53,26 @@ module _ {V : Type 0} (name : ℕ) where
       ap (λ o. option_or o (if_named name place x))
       (newest-last (place + 1) bs i b (omega (arith, last.0), last.1, λ k d h l. last.2 (suc k) d (omega arith) (omega arith)) read)
       ∙ ap (λ k. Some (record { place = k; binding = b })) (let p : place + 1 + i ≡ place + suc i = omega arith in p)
+
+  -- one binding back from `i`
+  module _ (low i : ℕ) (bs : List (Binding V)) (b : Binding V) (above : low < i) (within : i ≤ length bs) (read : b ≡ get_or bs (i - 1) b) where
+    newest_back : newest_from name low (take i bs) ≡ option_or (if_named name (i - 1) b) (newest_from name low (take (i - 1) bs))
+    newest_back =
+        let h : i - 1 < length bs = omega arith in
+        let e : i ≡ i - 1 + 1 = omega arith in
+        let n : length (take (i - 1) bs) ≡ i - 1 = length-take-le (i - 1) bs (omega arith) in
+        let l : low ≤ length (take (i - 1) bs) = omega arith in
+        ap (λ k. newest_from name low (take k bs)) e ∙ ap (newest_from name low) (take_more bs (i - 1) b h ∙ ap (λ y. take (i - 1) bs ++ y ∷ []) (sym read))
+        ∙ newest_from_push low (take (i - 1) bs) b l
+        ∙ ap (λ k. option_or (if_named name k b) (newest_from name low (take (i - 1) bs))) n
+
+    pub newest_hit : b.name ≡ name → newest_from name low (take i bs) ≡ Some (record { place = i - 1; binding = b })
+    newest_hit e = newest_back ∙ ap (λ o. option_or o (newest_from name low (take (i - 1) bs))) (named (i - 1) b e)
+
+    pub newest_miss : (b.name ≡ name → ⊥) → newest_from name low (take i bs) ≡ newest_from name low (take (i - 1) bs)
+    newest_miss e = newest_back ∙ ap (λ o. option_or o (newest_from name low (take (i - 1) bs))) (unnamed (i - 1) b e)
+
+  pub newest-none : (low i : ℕ) (bs : List (Binding V)) → i ≤ low → newest_from name low (take i bs) ≡ None
+  newest-none low i bs h =
+      let l : length (take i bs) ≤ low = simp length-take (omega arith) in
+      ap (newest name low) (drop_all low (take i bs) l)

@@ -60,6 +60,10 @@ pub call_first-find : (scopes : List Scope) → unwrap_or (option_map (λ s. s.f
 call_first-find [] = refl
 call_first-find (s ∷ outer) = call_first-more s.kind s (find is_call outer) ∙ ap (if_call s.kind s.first) (call_first-find outer)
 
+-- the innermost call's first name, one scope back from `i`
+pub call_first_back : (scopes : List Scope) (i : ℕ) → 0 < i → i ≤ length scopes → call_first (reverse (take i scopes)) ≡ if_call (get_or scopes (i - 1) closed).kind (get_or scopes (i - 1) closed).first (call_first (reverse (take (i - 1) scopes)))
+call_first_back scopes i low high = ap call_first (opened-top scopes i low high)
+
 pub if_call_other : {A : Type 0} (kind : ScopeKind) (a b : A) → (kind ≡ Call → ⊥) → if_call kind a b ≡ b
 if_call_other Call a b h = absurd (h refl)
 if_call_other Regular a b h = refl

@@ -49,7 +49,7 @@ module _ (ws : List ℕ) (e : ℕ) where
         let n = groups-some ws p (layout_of c) laid (omega arith) ∙ ap (λ x. get_or ws (p + x) 0) sh in
         let a = each.in_groups j i f (omega arith) (subst (λ (l : Layout). slice_get l.group i ≡ Some f) laid k) in
         let q : groups_from ws p + length (shape ws p).group * j + i ≡ p + 1 + h + suc g * j + i =
-            ap (λ (l : Layout). p + 1 + length l.head + length l.group * j + i) (sym laid) ∙ ap (λ x. p + 1 + x + length (layout_of c).group * j + i) sh ∙ ap (λ x. p + 1 + h + x * j + i) sg in
+        ap (λ (l : Layout). p + 1 + length l.head + length l.group * j + i) (sym laid) ∙ ap (λ x. p + 1 + x + length (layout_of c).group * j + i) sh ∙ ap (λ x. p + 1 + h + x * j + i) sg in
         sym (ap (λ x. child_fits ws e f (get_or ws x 0)) q) ∙ a
 
     -- the one field of the tail
@@ -59,7 +59,7 @@ module _ (ws : List ℕ) (e : ℕ) where
         let a = each.in_tail 0 f (subst (λ (l : Layout). slice_get l.tail 0 ≡ Some f) laid k) in
         let y : tail_from ws p + 0 ≡ tail_from ws p = omega arith in
         let q : tail_from ws p + 0 ≡ p + 1 + h + suc g * get_or ws (p + h) 0 =
-            y ∙ ap (λ (l : Layout). p + 1 + length l.head + length l.group * groups ws p) (sym laid) ∙ ap (λ x. p + 1 + x + length (layout_of c).group * groups ws p) sh ∙ ap (λ x. p + 1 + h + x * groups ws p) sg ∙ ap (λ x. p + 1 + h + suc g * x) n in
+        y ∙ ap (λ (l : Layout). p + 1 + length l.head + length l.group * groups ws p) (sym laid) ∙ ap (λ x. p + 1 + x + length (layout_of c).group * groups ws p) sh ∙ ap (λ x. p + 1 + h + x * groups ws p) sg ∙ ap (λ x. p + 1 + h + suc g * x) n in
         sym (ap (λ x. child_fits ws e f (get_or ws x 0)) q) ∙ a
 
   -- what stands in a list, and in a list of pairs

@@ -38,6 +38,7 @@ fn lay_out(draft: &Draft) -> Result<(), BookError>
 {
     let n = draft.entries();
     let mut at = n as usize + 1;
+    // in order, since each body has to stand where the one before it ends
     for e in 0..n {
         at = check_body(draft, e, at)?;
     }

@@ -11,6 +11,18 @@ offset_bounds-self-groups_from g c =
     let e = end_is b.words.now b.at _ _ b.known b.laid in
     omega (arith, b.ends, b.whole)
 
+pub slice_bounds-groups_pass-count : goal.slice_bounds-groups_pass-count
+slice_bounds-groups_pass-count g c =
+    let b = c.args.self.now in
+    let e = end_is b.words.now b.at _ _ b.known b.laid in
+    omega (arith, b.ends, b.whole)
+
+pub slice_bounds-groups_pass-start : goal.slice_bounds-groups_pass-start
+slice_bounds-groups_pass-start g c =
+    let b = c.args.self.now in
+    let e = end_is b.words.now b.at _ _ b.known b.laid in
+    omega (arith, b.ends, b.whole)
+
 pub returns : goal.returns
 returns g c =
     λ t a.

@@ -1,8 +1,10 @@
 use behavior::analysis::behavior_of;
 use behavior::set::{Behavior, NONE};
+use behavior::summary::Summaries;
 use book::book::Book;
 use fitness::analysis::fit;
 use fitness::fault::{Reason, Unfit};
+use std::test::Fail;
 
 const NEXT: Behavior = Behavior { next: true, ..NONE };
 
@@ -67,4 +69,32 @@ fn an_orphan_continuing_counts(rt: HostRuntime) {
             entry: 1,
         })
     );
+}
+
+#[test]
+fn nothing_past_the_last_entry(rt: HostRuntime) {
+    let mut summaries = Summaries::new(Book::empty());
+    for entry in [1, 4095, 4096, u16::MAX] {
+        assert_eq!(rt; summaries.set_of(entry), None);
+        assert_eq!(rt; summaries.of(entry).behavior, NONE);
+    }
+}
+
+#[test]
+fn sets_and_reasons_are_written(rt: HostRuntime) -> Result<(), Fail> {
+    let heap = rt.alloc();
+    assert_eq!(rt; NONE.to_string(heap)?.as_str(), "{}");
+    assert_eq!(rt; RETURN.to_string(heap)?.as_str(), "{Return}");
+    let all = Behavior {
+        next: true,
+        breaks: true,
+        continues: true,
+        returns: true,
+    };
+    assert_eq!(rt;
+        all.to_string(heap)?.as_str(),
+        "{Next, Break, Continue, Return}"
+    );
+    assert_eq!(rt; Reason::NoReturn.to_string(heap)?.as_str(), "NoReturn");
+    Ok(())
 }

@@ -129,6 +129,7 @@ fn has_default(mut clauses: Pairs) -> bool
 #[derive(Drop)]
 pub struct Summaries<'a> {
     book: Book<'a>,
+    // a slot for each entry that a book may have, in fixed memory: no heap
     known: [Option<Summary>; 4096],
 }
 
@@ -240,7 +241,8 @@ impl<'a> Summaries<'a> {
         so_far
     }
 
-    // The bodies of clauses joined to a summary so far; each stands after the entry.
+    // The bodies of clauses joined to a summary so far; each stands after the entry. It differs from a list in its rule and
+    // its items: one function over both would take two closures, to walk and to join.
     #[cycle(summaries)]
     fn of_clauses(&mut self, entry: u16, clauses: Pairs, start: Summary) -> Summary
         requires within { entry < entries self.old }

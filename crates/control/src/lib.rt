@@ -8,7 +8,7 @@ use book::node::{Items, Node, Pairs};
 
 #[derive(Drop)]
 pub enum Control<'a> {
-    // no statement
+    // no statement; a case like the others, since it has a set: the empty one
     Other,
     // a statement that only goes on
     Plain,

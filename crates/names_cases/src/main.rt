@@ -4,7 +4,7 @@
 mod bench;
 mod cases;
 
-use anyhow::anyhow;
+use anyhow::{Context, anyhow};
 use cases::perform;
 use names::binding::Binding;
 use names::names::Names;
@@ -48,9 +48,7 @@ fn all_cases(rt: &HostRuntime) -> anyhow::Result<()> {
     // each block begins with a line that asks for a table
     for block in lines.chunk_by(|_, line| table_of(line.as_str()).is_none()) {
         if let [first, operations @ ..] = block {
-            let Some(length) = table_of(first.as_str()) else {
-                return Err(anyhow!("an operation before any table"));
-            };
+            let length = table_of(first.as_str()).context("an operation before any table")?;
             println!(rt; "{first}")?;
             on_table(rt, length, operations)?;
         }
@@ -72,6 +70,7 @@ fn run(rt: &HostRuntime) -> anyhow::Result<()> {
     }
 }
 
+// Both programs of the repository end so; a crate for it would hold these lines alone.
 fn main(rt: HostRuntime) -> ExitCode {
     match run(&rt) {
         Ok(()) => ExitCode::SUCCESS,

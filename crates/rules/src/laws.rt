@@ -1,4 +1,5 @@
 // The laws of every run, for every host and every loaded book: each function here stands for the theorem in its contract.
+// They take the two by themselves, since a struct of both would make each clause longer.
 ghost use Rattle.rules.specs.Flows.{FitNever, FlowsInSets, NeverAstray};
 ghost use Rattle.rules.specs.Ledger.{LedgerHolds, LooksTell};
 ghost use Rattle.rules.specs.Promises.{CallsYield, SmallestGrants};

@@ -96,7 +96,7 @@ fn run(rt: &HostRuntime) -> anyhow::Result<()> {
     }
 }
 
-// Both programs of the repository end so; a crate for it would hold these lines alone.
+// As `names_cases` ends; a crate for the two would hold these lines alone.
 fn main(rt: HostRuntime) -> ExitCode {
     match run(&rt) {
         Ok(()) => ExitCode::SUCCESS,

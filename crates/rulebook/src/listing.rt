@@ -25,7 +25,11 @@ struct Flag(&'static str, bool);
 
 impl Display for Flag {
     fn fmt<W: Write>(&self, f: &mut Formatter<W>) -> Result {
-        if self.1 { write!(f, " {}", self.0) } else { Ok(()) }
+        if self.1 {
+            write!(f, " {}", self.0)
+        } else {
+            Ok(())
+        }
     }
 }
 
@@ -82,7 +86,11 @@ struct Clauses<'a>(&'a Pairs<'a>);
 
 impl Display for Clauses<'_> {
     fn fmt<W: Write>(&self, f: &mut Formatter<W>) -> Result {
-        bracketed(f, self.0.iter(), |(first, second), f| write!(f, "{first}:{second}"))
+        bracketed(
+            f,
+            self.0.iter(),
+            |(first, second), f| write!(f, "{first}:{second}"),
+        )
     }
 }
 
@@ -105,7 +113,11 @@ struct Cases<'a>(&'a Pairs<'a>);
 
 impl Display for Cases<'_> {
     fn fmt<W: Write>(&self, f: &mut Formatter<W>) -> Result {
-        bracketed(f, self.0.iter(), |(selector, body), f| write!(f, "{}:{body}", Selector(selector)))
+        bracketed(
+            f,
+            self.0.iter(),
+            |(selector, body), f| write!(f, "{}:{body}", Selector(selector)),
+        )
     }
 }
 
@@ -125,20 +137,41 @@ impl Display for Line<'_> {
             Node::Empty => f.write_str("empty"),
             Node::Compound { statements } => write!(f, "compound statements={}", List(statements)),
             Node::Assignment { operator, lhs, rhs } => {
-                write!(f, "assignment operator={} lhs={lhs} rhs={rhs}", Assigned(*operator))
+                write!(
+                    f,
+                    "assignment operator={} lhs={lhs} rhs={rhs}",
+                    Assigned(*operator)
+                )
             }
             Node::Increment { operand } => write!(f, "increment operand={operand}"),
             Node::Decrement { operand } => write!(f, "decrement operand={operand}"),
             Node::If { clauses, otherwise } => {
-                write!(f, "if clauses={}{}", Clauses(clauses), Part("else", *otherwise))
+                write!(
+                    f,
+                    "if clauses={}{}",
+                    Clauses(clauses),
+                    Part("else", *otherwise)
+                )
             }
-            Node::Switch { expression, clauses } => {
-                write!(f, "switch expression={expression} clauses={}", Cases(clauses))
+            Node::Switch {
+                expression,
+                clauses,
+            } => {
+                write!(
+                    f,
+                    "switch expression={expression} clauses={}",
+                    Cases(clauses)
+                )
             }
             Node::Loop { body, continuing } => {
                 write!(f, "loop body={body}{}", Part("continuing", *continuing))
             }
-            Node::For { initializer, condition, update, body } => write!(
+            Node::For {
+                initializer,
+                condition,
+                update,
+                body,
+            } => write!(
                 f,
                 "for{}{}{} body={body}",
                 Part("initializer", *initializer),
@@ -152,7 +185,12 @@ impl Display for Line<'_> {
             Node::Discard => f.write_str("discard"),
             Node::CallStatement { call } => write!(f, "call-statement call={call}"),
             Node::ConstAssert { expression } => write!(f, "const-assert expression={expression}"),
-            Node::Declaration { kind, name, ty, initializer } => write!(
+            Node::Declaration {
+                kind,
+                name,
+                ty,
+                initializer,
+            } => write!(
                 f,
                 "declaration kind={kind} name={name}{}{}",
                 Part("type", *ty),
@@ -164,17 +202,38 @@ impl Display for Line<'_> {
             Node::Literal { kind, words } => {
                 write!(f, "literal kind={kind} number={}", literal_number(*words))
             }
-            Node::Parenthesized { expression } => write!(f, "parenthesized expression={expression}"),
-            Node::Unary { operator, operand } => write!(f, "unary operator={operator} operand={operand}"),
-            Node::Binary { operator, left, right } => {
-                write!(f, "binary operator={operator} left={left} right={right}")
-            }
-            Node::ShortCircuit { operator, left, right } => {
-                write!(f, "binary operator={operator} left={left} right={right}")
-            }
+            Node::Parenthesized { expression } => write!(
+                f,
+                "parenthesized expression={expression}"
+            ),
+            Node::Unary { operator, operand } => write!(
+                f,
+                "unary operator={operator} operand={operand}"
+            ),
+            Node::Binary {
+                operator,
+                left,
+                right,
+            } => { write!(f, "binary operator={operator} left={left} right={right}") }
+            Node::ShortCircuit {
+                operator,
+                left,
+                right,
+            } => { write!(f, "binary operator={operator} left={left} right={right}") }
             Node::Name { name } => write!(f, "name name={name}"),
-            Node::Call { name, arguments } => write!(f, "call name={name} arguments={}", List(arguments)),
-            Node::Function { name, is_const, must_use, ty, body, parameters } => write!(
+            Node::Call { name, arguments } => write!(
+                f,
+                "call name={name} arguments={}",
+                List(arguments)
+            ),
+            Node::Function {
+                name,
+                is_const,
+                must_use,
+                ty,
+                body,
+                parameters,
+            } => write!(
                 f,
                 "function name={name}{}{}{} parameters={} body={body}",
                 Flag("const", *is_const),

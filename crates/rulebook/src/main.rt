@@ -37,7 +37,12 @@ fn read_words(rt: &HostRuntime, path: &str) -> anyhow::Result<Vec<u16>> {
 }
 
 fn print_refusal(rt: &HostRuntime, error: BookError) -> io::Result<()> {
-    println!(rt; "refused;{};{};{}", u16::from(error.fault), error.fault, error.entry)
+    println!(rt;
+        "refused;{};{};{}",
+        u16::from(error.fault),
+        error.fault,
+        error.entry
+    )
 }
 
 fn print_size(rt: &HostRuntime, book: &Book) -> anyhow::Result<()> {

@@ -29,11 +29,7 @@ fn print_statements(rt: &HostRuntime, sets: &[Option<Behavior>]) -> anyhow::Resu
     Ok(())
 }
 
-fn print_functions(
-    rt: &HostRuntime,
-    book: &Book,
-    sets: &[Option<Behavior>],
-) -> anyhow::Result<()> {
+fn print_functions(rt: &HostRuntime, book: &Book, sets: &[Option<Behavior>]) -> anyhow::Result<()> {
     let faults = faults(rt.alloc(), book)?;
     for (entry, fault) in (0..book.entries()).zip(&faults) {
         if let Control::Function(name, _, body) = control_at(book, entry) {

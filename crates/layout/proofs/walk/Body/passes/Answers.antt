@@ -1,33 +1,29 @@
-use Rattle.std.proofs.Common.{◌≡◌, ◌&&◌, ◌∙◌, arith}
+use Rattle.std.proofs.Common.{◌≡◌, ◌+◌, ◌*◌, ◌&&◌, length, ◌∙◌, arith}
 use Rattle.layout.specs.Layout.{groups}
+use Rattle.layout.specs.declared.walk.Body.{Body}
 use Rattle.layout.proofs.Bodies.{end_is}
 use Rattle.layout.proofs.Tests.{and_not, and_then, answered, groups_do, groups_long, tail_passes}
 use Rattle.layout.proofs.walk.Body.passes.Goals as goal
 use Rattle.layout.proofs.walk.Body.passes.Goals.{then-all_pass, else-all_pass, then-groups_pass, else-groups_pass}
 
+-- where a body ends, by the lengths of its shape
+ends_at : (b : Body) → b.end ≡ b.at + 1 + length b.shape.now.head.now + length b.shape.now.group.now * groups b.words.now b.at + length b.shape.now.tail.now
+ends_at b = b.ends ∙ end_is b.words.now b.at _ _ b.known b.laid
+
 pub offset_bounds-self-groups_from : goal.offset_bounds-self-groups_from
-offset_bounds-self-groups_from g c =
-    let b = c.args.self.now in
-    let e = end_is b.words.now b.at _ _ b.known b.laid in
-    omega (arith, b.ends, b.whole)
+offset_bounds-self-groups_from g c = omega (arith, ends_at c.args.self.now, c.args.self.now.whole)
 
 pub slice_bounds-groups_pass-count : goal.slice_bounds-groups_pass-count
-slice_bounds-groups_pass-count g c =
-    let b = c.args.self.now in
-    let e = end_is b.words.now b.at _ _ b.known b.laid in
-    omega (arith, b.ends, b.whole)
+slice_bounds-groups_pass-count g c = omega (arith, ends_at c.args.self.now, c.args.self.now.whole)
 
 pub slice_bounds-groups_pass-start : goal.slice_bounds-groups_pass-start
-slice_bounds-groups_pass-start g c =
-    let b = c.args.self.now in
-    let e = end_is b.words.now b.at _ _ b.known b.laid in
-    omega (arith, b.ends, b.whole)
+slice_bounds-groups_pass-start g c = omega (arith, ends_at c.args.self.now, c.args.self.now.whole)
 
 pub returns : goal.returns
 returns g c =
     λ t a.
     let b = c.args.self.now in
-    let e = b.ends ∙ end_is b.words.now b.at _ _ b.known b.laid in
+    let e = ends_at b in
     let long = groups_long t b.words.now b.at b.end _ b.laid e b.whole in
     let two : c.if-all_pass.value ≡ (c.all_pass.result && groups_do t b.words.now b.at b.end _ b.laid e b.whole) =
     elim c.if-all_pass.branch [

@@ -146,7 +146,6 @@ impl<'a> Model for Summaries<'a> {
 
 impl<'a> Summaries<'a> {
     // With none made yet.
-    #[tactic(auto, using(crate::proofs::Walked::blank))]
     pub fn new(book: Book<'a>) -> Summaries<'a>
         ensures { result ≡ book.entry.words.now }
     {

@@ -1,3 +1,4 @@
 pub mod Lists
+pub mod Numbers
 pub mod Reading
 pub mod Family

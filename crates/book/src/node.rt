@@ -246,6 +246,7 @@ fn words_from(ws: &[u16], from: usize, n: usize) -> &[u16]
     &rest[..n.min(rest.len())]
 }
 
+// A list of the `n` words from a place on.
 fn items_from(ws: &[u16], from: usize, n: u16) -> Items
     ensures { result ≡ items ws.now from n }
 {
@@ -254,6 +255,7 @@ fn items_from(ws: &[u16], from: usize, n: u16) -> Items
     }
 }
 
+// A list of the `n` pairs of words from a place on.
 #[tactic(auto, using(crate::proofs::Lists::pairs_of_chunks))]
 fn pairs_from(ws: &[u16], from: usize, n: u16) -> Pairs
     ensures { result ≡ pairs ws.now from n }

@@ -30,6 +30,7 @@ pub fn fit(book: &Book) -> Result<(), Unfit>
     ensures decides { Decides (is_ok result) (Fit book.now.words.now) }
 {
     let mut summaries = Summaries::new(*book);
+    // a loop: of a search by `find_map` nothing is known where its closure changes what it holds
     for e in 0..book.entries() {
         if let Some(unfit) = fault_at(&mut summaries, e) {
             return Err(unfit);

@@ -19,6 +19,7 @@ fn written<V: fmt::Display + Drop, E: fmt::Display + Drop>(
     }
 }
 
+// The value that a word writes.
 fn value_in<V: Fielded>(word: &str) -> Option<V> {
     from_field(word.as_bytes())
 }
@@ -66,6 +67,7 @@ where
     })
 }
 
+// The answer of the host that the question names first.
 fn answered(heap: Global, question: &str) -> Result<String, AllocError> {
     let words: Vec<&str> = question.split(' ').collect(heap)?;
     let answer = match words.as_slice() {

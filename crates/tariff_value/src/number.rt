@@ -1,5 +1,5 @@
-// Every value as a number of its type, and back. The tables differ from those of the scalars in every row: what is read
-// by them is read by one function, of the crate `fields`.
+// Every value as a number of its type, and back. Each host has a table of types of its own: a table for both would have to
+// hold the numbers, letters and ranges of each apart. What they share, the reader of fields, is in the crate `fields`.
 ghost use Rattle.std.specs.Prelude.{◌≡◌, ok_or};
 ghost use Rattle.tariff_value.specs.Types.{type_number, numbered_type, type_of, number_of, value, within};
 

@@ -1,6 +1,6 @@
 #![tactic(auto)]
 // The operators on two scalars of one type: the exact result, brought into the type.
-ghost use Rattle.std.specs.Prelude.{◌≡◌, true, ◌≢◌, pos, Ok};
+ghost use Rattle.std.specs.Prelude.{◌≡◌, true, pos, Ok};
 ghost use Rattle.scalar_value.specs.Types.{inside};
 ghost use Rattle.scalar_value.specs.Numbers.{wrapped};
 ghost use Rattle.arithmetic.specs.Operations.{concrete, settled, sum, difference, product, lenient, unless, quotient, remainder, bits, answer, operation, alike};

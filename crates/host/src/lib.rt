@@ -71,7 +71,7 @@ impl From<Stage> for u16 {
     }
 }
 
-// The stage that WGSL writes so.
+// The stage of a word: `const`, `override` or `exec`.
 impl FromStr for Stage {
     type Err = UnknownWord;
 

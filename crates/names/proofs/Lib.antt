@@ -2,5 +2,4 @@ pub mod Opened
 pub mod Newest
 pub mod Laws
 pub mod Scoping
-pub mod Finding
 pub mod Writing

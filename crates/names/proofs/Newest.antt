@@ -1,7 +1,7 @@
 -- The newest binding of a name, with one binding more at the end.
 use Rattle.std.proofs.Common.{◌≡◌, ℕ, zero, suc, ◌+◌, ◌-◌, ◌<◌, ◌≤◌, ◌≢◌, cond, List, [], ◌∷◌, ◌++◌, length, get_or, take, drop, Some, None, Option, sym, refl, ap, ◌∙◌, add-zero, arith, eq-eqb, ne_eqb}
 use Rattle.std.specs.Option.{option_or}
-use Rattle.std.proofs.lemmas.List.{take_more, drop-append-le, drop_all, length-drop, length-take-le, length-take}
+use Rattle.std.proofs.lemmas.List.{take_more, drop-append-le, length-drop, length-take-le}
 use Rattle.names.specs.Rules.{IsLastNamed, if_named, newest, newest_from}
 use Rattle.names.specs.declared.binding.Binding.{Binding}
 
@@ -65,14 +65,3 @@ module _ {V : Type 0} (name : ℕ) where
         ap (λ k. newest_from name low (take k bs)) e ∙ ap (newest_from name low) (take_more bs (i - 1) b h ∙ ap (λ y. take (i - 1) bs ++ y ∷ []) (sym read))
         ∙ newest_from_push low (take (i - 1) bs) b l
         ∙ ap (λ k. option_or (if_named name k b) (newest_from name low (take (i - 1) bs))) n
-
-    pub newest_hit : b.name ≡ name → newest_from name low (take i bs) ≡ Some (record { place = i - 1; binding = b })
-    newest_hit e = newest_back ∙ ap (λ o. option_or o (newest_from name low (take (i - 1) bs))) (named (i - 1) b e)
-
-    pub newest_miss : (b.name ≡ name → ⊥) → newest_from name low (take i bs) ≡ newest_from name low (take (i - 1) bs)
-    newest_miss e = newest_back ∙ ap (λ o. option_or o (newest_from name low (take (i - 1) bs))) (unnamed (i - 1) b e)
-
-  pub newest-none : (low i : ℕ) (bs : List (Binding V)) → i ≤ low → newest_from name low (take i bs) ≡ None
-  newest-none low i bs h =
-      let l : length (take i bs) ≤ low = simp length-take (omega arith) in
-      ap (newest name low) (drop_all low (take i bs) l)

@@ -4,7 +4,7 @@ use Rattle.std.proofs.lemmas.List.{take_more, take_more_set, reverse-append}
 use Rattle.std.proofs.lemmas.Bool.{leb-true, le-leb, and_parts, and_from}
 use Rattle.std.specs.List.{find}
 use Rattle.std.specs.Option.{option_map, unwrap_or}
-use Rattle.names.specs.Scopes.{call_first, closed, if_call, is_call, local_first, local_of, nested, opened, root_end, top_first}
+use Rattle.names.specs.Scopes.{call_first, closed, if_call, is_call, nested, opened, root_end}
 use Rattle.names.specs.declared.scope.Scope.{Scope}
 use Rattle.names.specs.declared.scope.ScopeKind.{ScopeKind}
 use Rattle.names.specs.declared.scope.ScopeKind.TheVariants.{Regular, Transparent, Call}
@@ -60,21 +60,7 @@ pub call_first-find : (scopes : List Scope) → unwrap_or (option_map (λ s. s.f
 call_first-find [] = refl
 call_first-find (s ∷ outer) = call_first-more s.kind s (find is_call outer) ∙ ap (if_call s.kind s.first) (call_first-find outer)
 
--- the innermost call's first name, one scope back from `i`
-pub call_first_back : (scopes : List Scope) (i : ℕ) → 0 < i → i ≤ length scopes → call_first (reverse (take i scopes)) ≡ if_call (get_or scopes (i - 1) closed).kind (get_or scopes (i - 1) closed).first (call_first (reverse (take (i - 1) scopes)))
-call_first_back scopes i low high = ap call_first (opened-top scopes i low high)
-
 pub if_call_other : {A : Type 0} (kind : ScopeKind) (a b : A) → (kind ≡ Call → ⊥) → if_call kind a b ≡ b
 if_call_other Call a b h = absurd (h refl)
 if_call_other Regular a b h = refl
 if_call_other Transparent a b h = refl
-
-pub local_first_transparent : (table : List Scope) (d : ℕ) → 1 < d → d ≤ length table → (get_or table (d - 1) closed).kind ≡ Transparent → local_first (opened table d) ≡ (get_or table (d - 2) closed).first
-local_first_transparent table d low high e =
-    let a : 0 < d - 1 = omega arith in
-    let b : d - 1 ≤ length table = omega arith in
-    let f : d - 1 - 1 ≡ d - 2 = omega arith in
-    ap local_first (opened-top table d (omega arith) high)
-    ∙ ap (λ k. local_of k (get_or table (d - 1) closed).first (opened table (d - 1))) e
-    ∙ ap top_first (opened-top table (d - 1) a b)
-    ∙ ap (λ k. (get_or table k closed).first) f

@@ -1,17 +1,17 @@
 -- A table of names of which no scope is open, with one scope more, or one less.
-use Rattle.std.proofs.Common.{◌≡◌, ℕ, ◌+◌, ◌-◌, ◌<◌, ◌≤◌, true, false, cond, leb, List, ◌∷◌, replicate, reverse, length, get_or, take, set, sym, refl, ap, ◌∙◌, subst, ⊎_elim, arith}
-use Rattle.std.proofs.lemmas.List.{get_or-replicate, get_or-set_same, get_or_past, length-replicate, length-reverse, length-set, length-take-le, take-set}
-use Rattle.std.proofs.lemmas.Bool.{cases_lt, leb-true, le-leb, le-ltb, lt-ltb, and_parts, and_from}
+use Rattle.std.proofs.Common.{◌≡◌, ℕ, ◌+◌, ◌-◌, ◌<◌, ◌≤◌, true, cond, leb, List, ◌∷◌, replicate, reverse, length, get_or, take, set, sym, refl, ap, ◌∙◌, subst, ⊎_elim, arith}
+use Rattle.std.proofs.lemmas.List.{get_or-replicate, get_or_past, length-replicate, length-reverse, length-take-le, take-set}
+use Rattle.std.proofs.lemmas.Bool.{cases_lt, lt-ltb, and_parts}
 use Rattle.names.specs.Laws.{GivesBack}
-use Rattle.names.specs.Rules.{close_scope, closing, may_open, open_scope, root_names}
-use Rattle.names.specs.Scopes.{Scoped, call_first, closed, if_call, nested, opened}
+use Rattle.names.specs.Rules.{close_scope, closing, may_open, open_scope}
+use Rattle.names.specs.Scopes.{Scoped, closed, nested, opened}
 use Rattle.names.specs.State.{InOrder, State}
 use Rattle.names.specs.declared.binding.Binding.{Binding}
 use Rattle.names.specs.declared.scope.Scope.{Scope}
 use Rattle.names.specs.declared.scope.ScopeKind.{ScopeKind}
-use Rattle.names.specs.declared.scope.ScopeKind.TheVariants.{Regular, Call}
-use Rattle.names.proofs.Laws.{close_root, gives_back}
-use Rattle.names.proofs.Opened.{if_call_other, opened-push, opened-top}
+use Rattle.names.specs.declared.scope.ScopeKind.TheVariants.{Regular}
+use Rattle.names.proofs.Laws.{gives_back}
+use Rattle.names.proofs.Opened.{opened-push, opened-top}
 
 pub closed_is : (s : Scope) → s.first ≡ 0 → s.kind ≡ Regular → s ≡ closed
 closed_is s first kind = ap (λ k. record { first = k; kind = s.kind }) first ∙ ap (λ k. record { first = 0; kind = k }) kind
@@ -54,9 +54,6 @@ module _ {V : Type 0} (bs : List (Binding V)) (usable : ℕ) (scopes : List Scop
   pub may_open_lem : depth < 257 → may_open said ≡ true
   may_open_lem h = lt-ltb _ _ (omega (arith, open_count))
 
-  pub may_not_open : 257 ≤ depth → may_open said ≡ false
-  may_not_open h = le-ltb _ _ (omega (arith, open_count))
-
   -- The scopes are in order.
   pub in_order : InOrder said
   in_order = scoped.in_order
@@ -72,20 +69,8 @@ module _ {V : Type 0} (bs : List (Binding V)) (usable : ℕ) (scopes : List Scop
     open_pushed : opened open_table (depth + 1) ≡ opening ∷ opened scopes depth
     open_pushed = opened-push scopes depth opening (omega (arith, scoped.sized))
 
-    pub open_sized : length open_table ≡ 257
-    open_sized = length-set scopes depth opening ∙ scoped.sized
-
-    pub open_nested : nested (opened open_table (depth + 1)) (length bs) ≡ true
-    open_nested = ap (λ ss. nested ss (length bs)) open_pushed ∙ and_from _ _ (le-leb (length bs) (length bs) (omega arith)) scoped.in_order
-
-    pub open_called : if_call kind (length bs) own ≡ call_first (opened open_table (depth + 1))
-    open_called = ap (if_call kind (length bs)) scoped.called ∙ sym (ap call_first open_pushed)
-
     pub open_state : with_scopes (opened open_table (depth + 1)) ≡ cond (may_open said) (open_scope kind said) said
     open_state = ap with_scopes open_pushed ∙ ap (λ b. cond b (open_scope kind said) said) (sym (may_open_lem h))
-
-    pub open_gives_back : GivesBack said (with_scopes (opened open_table (depth + 1)))
-    open_gives_back = opened_gives_back kind said (with_scopes (opened open_table (depth + 1))) open_state (may_open_lem h)
 
   module _ (h : 0 < depth) where
     -- the record of the scope that closes, and the table without it
@@ -108,29 +93,7 @@ module _ {V : Type 0} (bs : List (Binding V)) (usable : ℕ) (scopes : List Scop
     parts : (leb leaving.first (length bs) ≡ true) × (nested (opened scopes (depth - 1)) leaving.first ≡ true)
     parts = and_parts _ _ (subst (λ ss. nested ss (length bs) ≡ true) top scoped.in_order)
 
-    pub close_room : leaving.first ≤ length bs
-    close_room = leb-true _ _ parts.0
-
-    pub close_sized : length closed_table ≡ 257
-    close_sized = length-set scopes (depth - 1) closed ∙ scoped.sized
-
-    pub close_nested : nested (opened closed_table (depth - 1)) leaving.first ≡ true
-    close_nested = ap (λ ss. nested ss leaving.first) below ∙ parts.1
-
-    pub close_called : call_first (opened scopes (depth - 1)) ≡ call_first (opened closed_table (depth - 1))
-    close_called = ap call_first (sym below)
-
     pub close_state : left ≡ close_scope said
     close_state =
         ap (λ ss. record { bindings = take leaving.first bs; scopes = ss; usable = usable }) below
         ∙ ap (λ ss. closing ss said) (sym top)
-
-    pub close_root_survives : root_names left ≡ root_names said
-    close_root_survives = ap root_names close_state ∙ close_root said in_order
-
-    pub close_cleared : get_or closed_table (depth - 1) closed ≡ closed
-    close_cleared = get_or-set_same scopes (depth - 1) closed closed (omega (arith, scoped.sized, scoped.shallow))
-
-    -- Outside the innermost scope, if it is not a call's, runs the same call.
-    pub outer_own : (leaving.kind ≡ Call → ⊥) → own ≡ call_first (opened scopes (depth - 1))
-    outer_own other = scoped.called ∙ ap call_first top ∙ if_call_other leaving.kind leaving.first _ other

@@ -1,52 +1,14 @@
 -- A variable at a place, and a table with another value there, or with one binding more.
-use Rattle.std.proofs.Common.{◌≡◌, ℕ, ◌<◌, ◌≤◌, true, false, cond, ltb, ◌⊎◌, List, [], ◌∷◌, ◌++◌, length, get_or, Some, None, Ok, Err, Result, sym, refl, ap, ◌∙◌, subst, ⊎_elim, arith}
-use Rattle.std.proofs.lemmas.Option.{slice_get_read, slice_get_past}
-use Rattle.std.proofs.lemmas.Bool.{cases_lt, eq-eqb, lt-ltb}
-use Rattle.std.specs.List.{slice_get}
+use Rattle.std.proofs.Common.{◌≡◌, ℕ, ◌<◌, ◌≤◌, true, false, List, [], ◌∷◌, ◌++◌, length, Some, Ok, Err, Result, sym, ap, ◌∙◌, subst, arith}
 use Rattle.std.specs.Result.{MatchResult, is_ok}
 use Rattle.host.specs.Meaning.{ValueMeaning}
-use Rattle.syntax.specs.declared.DeclarationKind.{DeclarationKind}
-use Rattle.syntax.specs.declared.DeclarationKind.TheVariants.{Const, Let, Var}
 use Rattle.names.specs.Laws.{Finds, OneValue, OthersStay}
 use Rattle.names.specs.Room.{Room}
-use Rattle.names.specs.Rules.{bind, bound, duplicate, if_var, lookup, revalued, the_var, variable, write, writing, written}
+use Rattle.names.specs.Rules.{lookup, revalued, variable, written}
 use Rattle.names.specs.State.{InOrder, State}
 use Rattle.names.specs.declared.binding.Binding.{Binding}
-use Rattle.names.specs.declared.error.NameFault.{NameFault}
-use Rattle.names.specs.declared.error.NameFault.TheVariants.{DuplicateDecl, NoNames, WriteRefType}
 use Rattle.names.specs.declared.scope.Scope.{Scope}
 use Rattle.names.proofs.Laws.{bound_found, others_stay, written_one}
-
-module _ {V : Type 0} where
-  module _ (bs : List (Binding V)) (place : ℕ) (b : Binding V) (h : place < length bs) (read : b ≡ get_or bs place b) where
-    at_place : the_var (slice_get bs place) ≡ if_var b.kind b
-    at_place = ap the_var (slice_get_read bs (length bs) place b refl h read)
-
-    pub var_there : b.kind ≡ Var → Some b ≡ the_var (slice_get bs place)
-    var_there e = sym (at_place ∙ ap (λ k. if_var k b) e)
-
-    pub no_var_there : (b.kind ≡ Const) ⊎ (b.kind ≡ Let) → None ≡ the_var (slice_get bs place)
-    no_var_there e = sym (at_place ∙ ⊎_elim (ap (λ k. if_var k b)) (ap (λ k. if_var k b)) e)
-
-  -- A variable stands at a bound place.
-  pub variable-within : (bs : List (Binding V)) (place : ℕ) (b : Binding V) → Some b ≡ the_var (slice_get bs place) → place < length bs
-  variable-within bs place b is =
-      ⊎_elim (λ h. h)
-      (λ past. let e : Some b ≡ None = is ∙ ap the_var (slice_get_past bs place past) in let z : ◌≡◌ {A = ℕ} 0 1 = cc in omega arith)
-      (cases_lt place (length bs))
-
-module _ {V : Type 0} (s : State V) where
-  pub write_is : (m : ValueMeaning V) (place : ℕ) (b : Binding V) (value : V) → Some b ≡ variable place s → m.type_of value ≡ m.type_of b.value → write m place value s ≡ Ok (written place (revalued b value) s)
-  write_is m place b value is typed =
-      ap (λ o. writing m place o value s) (sym is)
-      ∙ ap (λ t. cond t (Ok (written place (revalued b value) s)) (Err WriteRefType)) (eq-eqb _ _ typed)
-
-  pub bind_is : (name : ℕ) (kind : DeclarationKind) (value : V) → length s.bindings < s.usable → false ≡ duplicate name s → bind name kind value s ≡ Ok (bound (record { name = name; kind = kind; value = value }) s)
-  bind_is name kind value free new =
-      let t : ltb (length s.bindings) s.usable ≡ true = lt-ltb _ _ free in
-      let o : Result (State V) NameFault = Ok (bound (record { name = name; kind = kind; value = value }) s) in
-      ap (λ d. cond d (Err DuplicateDecl) (cond (ltb (length s.bindings) s.usable) o (Err NoNames))) (sym new)
-      ∙ ap (λ d. cond d o (Err NoNames)) t
 
 module _ {V : Type 0} (ss : List Scope) where
   -- what a table says whose names have room

@@ -1,4 +1,4 @@
--- A list in a table of its own.
+-- A list in a slice that is lent to it.
 use Rattle.std.specs.Prelude.{ℕ, List}
 
 -- The items, and how many there may be.

@@ -14,7 +14,7 @@ pub const MOST_SCOPES: usize = 257;
 #[derive(Drop)]
 pub struct Names<'a, V> {
     pub(crate) bindings: LentVec<'a, Binding<V>>,
-    // a plain table inside, with no slice to lend: one record is written on opening and on closing
+    // a plain table, and no list that forgets its last record: one record is written on opening, and blanked on closing
     pub(crate) scopes: [Scope; MOST_SCOPES],
     pub(crate) depth: usize,
     // where the innermost call's names begin

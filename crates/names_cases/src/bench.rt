@@ -26,9 +26,7 @@ fn place_of(names: &Names<Scalar>, name: u16) -> u64 {
 pub fn look_up(rt: &HostRuntime, count: u16, each: u16, rounds: u64) -> anyhow::Result<()> {
     let mut table = [FREE; 1024];
     let mut names = Names::new(&mut table);
-    if fill(&mut names, count, each).is_err() {
-        return Err(anyhow!("more names than records"));
-    }
+    fill(&mut names, count, each).map_err(|_| anyhow!("more names than records"))?;
     let mut sum: u64 = 0;
     for _ in 0..rounds {
         for name in 0..count {

@@ -41,10 +41,7 @@ fn on_table(rt: &HostRuntime, length: usize, operations: &[String]) -> anyhow::R
 }
 
 fn all_cases(rt: &HostRuntime) -> anyhow::Result<()> {
-    let mut lines: Vec<String> = Vec::new(rt.alloc());
-    for line in rt.lines(rt.alloc()) {
-        lines.push(line?)?;
-    }
+    let lines: Vec<String> = rt.lines(rt.alloc()).try_collect(rt.alloc())?;
     // each block begins with a line that asks for a table
     for block in lines.chunk_by(|_, line| table_of(line.as_str()).is_none()) {
         if let [first, operations @ ..] = block {

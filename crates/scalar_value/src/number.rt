@@ -1,7 +1,7 @@
 // Every scalar as a number of its type, and back.
 ghost use Rattle.std.specs.Prelude.{◌≡◌, true, pos};
 ghost use Rattle.syntax.specs.Numbers.{numbered};
-ghost use Rattle.scalar_value.specs.Types.{scalar_types, type_number, size, lowest, highest, inside, wrap};
+ghost use Rattle.scalar_value.specs.Types.{scalar_types, type_number, size, highest, inside, wrap};
 ghost use Rattle.scalar_value.specs.Numbers.{type_of, number_of, scalar, within, wrapped};
 
 use crate::{Scalar, ScalarType};

@@ -63,7 +63,7 @@ impl fmt::Display for UnknownNumber {
 
 impl Error for UnknownNumber {}
 
-// A text that WGSL does not write for what was asked.
+// A text that is no word for what was asked.
 #[derive(Clone, Copy, PartialEq, Eq, Debug)]
 pub struct UnknownWord;
 

@@ -183,7 +183,8 @@ impl<'a> Summaries<'a> {
         summary
     }
 
-    // The summary of an entry from those of its children.
+    // The summary of an entry from those of its children. `within`, here and below, is how the recursion is known to end: from
+    // an entry of the book it goes to larger ones alone.
     #[cycle(summaries)]
     #[tactic(auto, using(crate::proofs::Summed::list_folds, crate::proofs::Summed::clause_folds), unfolding(crate::specs::Summaries::summary))]
     fn summarize(&mut self, entry: u16) -> Summary

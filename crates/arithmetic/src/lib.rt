@@ -60,6 +60,7 @@ struct Pair {
     ghost n_inside: { inside of n ≡ true },
 }
 
+// Sum, difference and product are one call each: as one function over a closure they would be longer.
 impl Pair {
     fn add(self) -> Result<Scalar, HostFault>
         ensures { result ≡ sum self.of self.m self.n }

@@ -13,7 +13,8 @@ use shape::Construct;
 use std::marker::Model;
 use syntax::{BinaryOperator, DeclarationKind, ShortCircuit, UnaryOperator};
 
-// A list of words in the book, which are read in turn.
+// A list of words in the book, which are read in turn. It can't be copied, since contracts see the words and not where they
+// lie; `iter` gives it once more.
 #[derive(Drop)]
 pub struct Items<'a> {
     words: &'a [u16],

@@ -1,4 +1,5 @@
-// A list in a slice that is lent to it: the items are the first of the slice, the others are free.
+// A list in a slice that is lent to it, since a table of names has no memory of its own: the items are the first of the
+// slice, the others are free.
 ghost use Rattle.std.specs.Prelude.{◌≡◌, ◌≤◌, ◌<◌, ◌++◌, ◌∷◌, [], length, take, slice_set, MatchResult};
 
 use std::marker::Model;

@@ -64,7 +64,7 @@ impl Fielded for Scalar {
     }
 }
 
-// The scalar that is written so, and none if none is.
+// The scalar that is written so, and none if none is: the reader of fields, with clauses in the words of scalars.
 pub fn from_field(text: &[u8]) -> Option<Scalar>
     ensures prints { Prints Valid scalar_field text.now result }
     ensures undoes { Undoes Valid scalar_field text.now result }

@@ -129,6 +129,7 @@ impl Operators for Tariff {
 
     ghost keeps = { Prim.search rules };
 
+    // Two lines in each host, with its own types: a function for both would need a trait of types.
     fn literal(&self, kind: u16, words: [u16; 4]) -> Result<TariffValue, HostFault> {
         let t = TariffType::try_from(kind).map_err(|_| HostFault::Literal)?;
         let n = u64::try_from(literal_number(words)).map_err(|_| HostFault::Literal)?;

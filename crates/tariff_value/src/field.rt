@@ -64,7 +64,7 @@ impl Fielded for TariffValue {
     }
 }
 
-// The value that is written so, and none if none is.
+// The value that is written so, and none if none is: the reader of fields, with clauses in the words of a tariff.
 pub fn from_field(text: &[u8]) -> Option<TariffValue>
     ensures prints { Prints Valid tariff_field text.now result }
     ensures undoes { Undoes Valid tariff_field text.now result }

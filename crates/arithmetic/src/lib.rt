@@ -99,6 +99,7 @@ impl Pair {
         if n == 0 {
             return lenient_or(HostFault::DivByZero, stage, t, wrap_into(t, m));
         }
+        // an absent quotient leads to another answer, and to a fault only where the division is not lenient
         match within_type(t, m / n) {
             Some(v) => Ok(v),
             None => lenient_or(HostFault::NegOverflow, stage, t, wrap_into(t, m)),

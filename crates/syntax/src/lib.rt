@@ -93,15 +93,24 @@ impl TryFrom<u16> for UnaryOperator {
     }
 }
 
+impl UnaryOperator {
+    // The operator as WGSL writes it.
+    pub fn symbol(self) -> &'static str
+        ensures { result.now ≡ unary_symbol self }
+    {
+        match self {
+            UnaryOperator::Negation => "-",
+            UnaryOperator::LogicalNegation => "!",
+            UnaryOperator::BitwiseComplement => "~",
+        }
+    }
+}
+
 impl fmt::Display for UnaryOperator {
     ghost output = { λ v. Some (unary_symbol v) };
 
     fn fmt<W: fmt::Write>(&self, f: &mut fmt::Formatter<W>) -> fmt::Result {
-        f.write_str(match self {
-            UnaryOperator::Negation => "-",
-            UnaryOperator::LogicalNegation => "!",
-            UnaryOperator::BitwiseComplement => "~",
-        })
+        f.write_str(UnaryOperator::symbol(*self))
     }
 }
 
@@ -147,11 +156,12 @@ impl TryFrom<u16> for BinaryOperator {
     }
 }
 
-impl fmt::Display for BinaryOperator {
-    ghost output = { λ v. Some (binary_symbol v) };
-
-    fn fmt<W: fmt::Write>(&self, f: &mut fmt::Formatter<W>) -> fmt::Result {
-        f.write_str(match self {
+impl BinaryOperator {
+    // The operator as WGSL writes it.
+    pub fn symbol(self) -> &'static str
+        ensures { result.now ≡ binary_symbol self }
+    {
+        match self {
             BinaryOperator::Addition => "+",
             BinaryOperator::Subtraction => "-",
             BinaryOperator::Multiplication => "*",
@@ -166,7 +176,15 @@ impl fmt::Display for BinaryOperator {
             BinaryOperator::LessThanEqual => "<=",
             BinaryOperator::GreaterThan => ">",
             BinaryOperator::GreaterThanEqual => ">=",
-        })
+        }
+    }
+}
+
+impl fmt::Display for BinaryOperator {
+    ghost output = { λ v. Some (binary_symbol v) };
+
+    fn fmt<W: fmt::Write>(&self, f: &mut fmt::Formatter<W>) -> fmt::Result {
+        f.write_str(BinaryOperator::symbol(*self))
     }
 }
 
@@ -211,14 +229,23 @@ impl TryFrom<u16> for ShortCircuit {
     }
 }
 
+impl ShortCircuit {
+    // The operator as WGSL writes it.
+    pub fn symbol(self) -> &'static str
+        ensures { result.now ≡ short_circuit_symbol self }
+    {
+        match self {
+            ShortCircuit::And => "&&",
+            ShortCircuit::Or => "||",
+        }
+    }
+}
+
 impl fmt::Display for ShortCircuit {
     ghost output = { λ v. Some (short_circuit_symbol v) };
 
     fn fmt<W: fmt::Write>(&self, f: &mut fmt::Formatter<W>) -> fmt::Result {
-        f.write_str(match self {
-            ShortCircuit::And => "&&",
-            ShortCircuit::Or => "||",
-        })
+        f.write_str(ShortCircuit::symbol(*self))
     }
 }
 
@@ -238,15 +265,24 @@ impl TryFrom<u16> for DeclarationKind {
     }
 }
 
+impl DeclarationKind {
+    // The kind as WGSL writes it.
+    pub fn symbol(self) -> &'static str
+        ensures { result.now ≡ kind_word self }
+    {
+        match self {
+            DeclarationKind::Const => "const",
+            DeclarationKind::Let => "let",
+            DeclarationKind::Var => "var",
+        }
+    }
+}
+
 impl fmt::Display for DeclarationKind {
     ghost output = { λ v. Some (kind_word v) };
 
     fn fmt<W: fmt::Write>(&self, f: &mut fmt::Formatter<W>) -> fmt::Result {
-        f.write_str(match self {
-            DeclarationKind::Const => "const",
-            DeclarationKind::Let => "let",
-            DeclarationKind::Var => "var",
-        })
+        f.write_str(DeclarationKind::symbol(*self))
     }
 }
 

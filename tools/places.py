@@ -4,7 +4,7 @@
 usage: tools/places.py [-q] [FOLDER]      -q prints the counts alone
 
 A place is a line that a pattern finds; each has to be read, since a pattern finds harmless lines too. A place that is
-kept has its reason in the source, on a line with "Kept:" above or beside it.
+kept has its reason in the source, in a comment beside it.
 """
 import re
 import sys
@@ -68,14 +68,12 @@ def main():
     quiet = '-q' in sys.argv
     rest = [a for a in sys.argv[1:] if a != '-q']
     folder = Path(rest[0] if rest else '.')
-    kept = sum(len(re.findall(r'// Kept:', f.read_text())) for f in sources(folder))
     for name, patterns in POINTS.items():
         rows = [(f, n, s) for f in sources(folder) for n, s in sorted(found(f.read_text(), patterns))]
         print(f'{name}: {len(rows)}')
         if not quiet:
             for f, n, s in rows:
                 print(f'    {f.relative_to(folder)}:{n}: {s[:110]}')
-    print(f'lines that say why a place is kept: {kept}')
 
 
 if __name__ == '__main__':

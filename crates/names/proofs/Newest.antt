@@ -1,7 +1,7 @@
 -- The newest binding of a name, with one binding more at the end.
-use Rattle.std.proofs.Common.{◌≡◌, ℕ, zero, suc, ◌+◌, ◌-◌, ◌<◌, ◌≤◌, ◌≢◌, cond, List, [], ◌∷◌, ◌++◌, length, get_or, take, drop, Some, None, Option, sym, refl, ap, ◌∙◌, add-zero, arith, eq-eqb, ne_eqb}
+use Rattle.std.proofs.Common.{◌≡◌, ℕ, zero, suc, ◌+◌, ◌<◌, ◌≤◌, ◌≢◌, cond, List, [], ◌∷◌, ◌++◌, length, get_or, drop, Some, None, Option, sym, refl, ap, ◌∙◌, add-zero, arith, eq-eqb, ne_eqb}
 use Rattle.std.specs.Option.{option_or}
-use Rattle.std.proofs.lemmas.List.{take_more, drop-append-le, length-drop, length-take-le}
+use Rattle.std.proofs.lemmas.List.{drop-append-le, length-drop}
 use Rattle.names.specs.Rules.{IsLastNamed, if_named, newest, newest_from}
 use Rattle.names.specs.declared.binding.Binding.{Binding}
 
@@ -53,15 +53,3 @@ module _ {V : Type 0} (name : ℕ) where
       ap (λ o. option_or o (if_named name place x))
       (newest-last (place + 1) bs i b (omega (arith, last.0), last.1, λ k d h l. last.2 (suc k) d (omega arith) (omega arith)) read)
       ∙ ap (λ k. Some (record { place = k; binding = b })) (let p : place + 1 + i ≡ place + suc i = omega arith in p)
-
-  -- one binding back from `i`
-  module _ (low i : ℕ) (bs : List (Binding V)) (b : Binding V) (above : low < i) (within : i ≤ length bs) (read : b ≡ get_or bs (i - 1) b) where
-    newest_back : newest_from name low (take i bs) ≡ option_or (if_named name (i - 1) b) (newest_from name low (take (i - 1) bs))
-    newest_back =
-        let h : i - 1 < length bs = omega arith in
-        let e : i ≡ i - 1 + 1 = omega arith in
-        let n : length (take (i - 1) bs) ≡ i - 1 = length-take-le (i - 1) bs (omega arith) in
-        let l : low ≤ length (take (i - 1) bs) = omega arith in
-        ap (λ k. newest_from name low (take k bs)) e ∙ ap (newest_from name low) (take_more bs (i - 1) b h ∙ ap (λ y. take (i - 1) bs ++ y ∷ []) (sym read))
-        ∙ newest_from_push low (take (i - 1) bs) b l
-        ∙ ap (λ k. option_or (if_named name k b) (newest_from name low (take (i - 1) bs))) n

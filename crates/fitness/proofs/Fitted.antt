@@ -1,12 +1,12 @@
 -- What is below an entry, and when a book is fit.
 use Rattle.std.proofs.Common.{◌≡◌, ℕ, zero, suc, ◌-◌, ◌<◌, ◌≤◌, Bool, true, false, cond, not, ◌&&◌, ◌||◌, List, [], ◌∷◌, Some, None, Option, sym, refl, ap, ◌∙◌, arith}
-use Rattle.std.specs.Option.{option_map}
+use Rattle.std.specs.Option.{option_map, option_or}
 use Rattle.std.specs.List.{slice_get}
 use Rattle.std.proofs.lemmas.Bool.{cond-false, or_from, or_parts, true≢false}
-use Rattle.layout.specs.First.{first_some, or_else}
+use Rattle.layout.specs.First.{first_some}
 use Rattle.layout.specs.Layout.{entries}
 use Rattle.layout.specs.WellFormed.{WellFormed}
-use Rattle.layout.proofs.Firsts.{each_first, first_each, neither}
+use Rattle.layout.proofs.Firsts.{cond_is_none, each_first, first_each, mapped_is_none, neither}
 use Rattle.behavior.specs.Below.{Below, IsBelow, children_of, earlier, earliest, is_bare, is_leaving, is_valued, itself, least, leaving, returning, through}
 use Rattle.control.specs.Control.{control}
 use Rattle.fitness.specs.Fit.{Fit, FitFunction, fault_at, fault_of, function_fault, unfit}
@@ -15,7 +15,6 @@ use Rattle.behavior.specs.Summaries.{After, summary}
 use Rattle.control.specs.declared.Control.{Control}
 use Rattle.control.specs.declared.Control.TheVariants.{Break, Continue, Continuing, Forever, Function, If, Loop, Other, Plain, Return, Sequence, Switch, While}
 use Rattle.fitness.specs.declared.fault.Reason.TheVariants.{LeavingContinuing, MissingValue, UnexpectedValue}
-use Rattle.fitness.specs.declared.fault.Unfit.{Unfit}
 use Rattle.behavior.proofs.Follows.{child_follows}
 use Rattle.behavior.proofs.Openings.{control_follows, opened-least}
 
@@ -40,10 +39,6 @@ none-earliest : (f : ℕ → Option ℕ) (cs : List ℕ) → ((i c : ℕ) → sl
 none-earliest f [] h = refl
 none-earliest f (c ∷ cs) h = ap (λ x. earliest f x cs) (h 0 c refl) ∙ none-earliest f cs (λ i. h (suc i))
 
-cond-none : (b : Bool) (e : ℕ) (o : Option ℕ) → cond b (Some e) o ≡ None → (b ≡ false) × (o ≡ None)
-cond-none true e o h = let w : ◌≡◌ {A = ℕ} 0 1 = cc in absurd (omega arith)
-cond-none false e o h = (refl, h)
-
 module _ (ws : List ℕ) (w : WellFormed ws) where
   child_after : (e c : ℕ) → IsBelow ws e c → After ws e c
   child_after e c b = child_follows ws e (control ws e) (control_follows ws w e) b.0 c b.1
@@ -53,9 +48,9 @@ module _ (ws : List ℕ) (w : WellFormed ws) where
   below_within e k h (through {c = c} i b) = below_within c k (child_after e c i).1 b
 
   least-none : (p : ℕ → Bool) (e k : ℕ) → e < entries ws → least ws p e ≡ None → Below ws e k → p k ≡ false
-  least-none p e k h n itself = (cond-none (p e) e _ (sym (opened-least ws w p e h) ∙ n)).0
+  least-none p e k h n itself = (cond_is_none (p e) e _ (sym (opened-least ws w p e h) ∙ n)).0
   least-none p e k h n (through {c = c} i b) =
-      let o = (cond-none (p e) e _ (sym (opened-least ws w p e h) ∙ n)).1 in
+      let o = (cond_is_none (p e) e _ (sym (opened-least ws w p e h) ∙ n)).1 in
       least-none p c k (child_after e c i).1 ((earliest-none (least ws p) (children_of (control ws e)) None o).1 i.0 c i.1) b
 
   free_depth : (p : ℕ → Bool) (n e : ℕ) → entries ws - e ≤ n → e < entries ws → ((k : ℕ) → Below ws e k → p k ≡ false) → least ws p e ≡ None
@@ -69,14 +64,6 @@ module _ (ws : List ℕ) (w : WellFormed ws) where
   free_least p e h f = free_depth p (entries ws - e) e (omega arith) h f
 
   -- the parts of a function's fault
-  unfit-not : (b : Bool) (u : Unfit) (o : Option Unfit) → cond b (Some u) o ≡ None → (b ≡ false) × (o ≡ None)
-  unfit-not true u o h = let z : ◌≡◌ {A = ℕ} 0 1 = cc in absurd (omega arith)
-  unfit-not false u o h = (refl, h)
-
-  unmapped : (f : ℕ → Unfit) (o : Option ℕ) → option_map f o ≡ None → o ≡ None
-  unmapped f None h = refl
-  unmapped f (Some x) h = let z : ◌≡◌ {A = ℕ} 0 1 = cc in absurd (omega arith)
-
   and_not : (a b : Bool) → (a && b) ≡ false → a ≡ true → b ≡ false
   and_not true b h t = h
   and_not false b h t = absurd (true≢false (sym t))
@@ -93,15 +80,15 @@ module _ (ws : List ℕ) (w : WellFormed ws) where
   unfolding summary
   fit_function e typed b h n =
       let s = behavior ws b in
-      let x = unfit-not (s.breaks || s.continues) _ _ n in
-      let y = unfit-not (typed && s.next) _ _ x.1 in
+      let x = cond_is_none (s.breaks || s.continues) _ _ n in
+      let y = cond_is_none (typed && s.next) _ _ x.1 in
       let z = neither (option_map (unfit e (cond typed MissingValue UnexpectedValue)) (cond typed (least ws (is_bare ws) b) (least ws (is_valued ws) b))) _ y.1 in
       let o = or_parts s.breaks s.continues x.0 in
       record {
         no_break = o.0;
         no_continue = o.1;
         returns = and_not typed s.next y.0;
-        values = wrong_returns typed b h (unmapped _ _ z.0);
+        values = wrong_returns typed b h (mapped_is_none _ _ z.0);
       }
 
   -- a fit book has no leaving continuing
@@ -130,7 +117,7 @@ module _ (ws : List ℕ) (w : WellFormed ws) where
       let s = behavior ws b in
       cond-false (s.breaks || s.continues) _ _ (or_from s.breaks s.continues r.no_break r.no_continue)
       ∙ cond-false (typed && s.next) _ _ (and_none typed s.next r.returns)
-      ∙ ap (λ o. or_else (option_map (unfit e (cond typed MissingValue UnexpectedValue)) o) (option_map (unfit e LeavingContinuing) (least ws (is_leaving ws) b))) (right_returns typed b h r.values)
+      ∙ ap (λ o. option_or (option_map (unfit e (cond typed MissingValue UnexpectedValue)) o) (option_map (unfit e LeavingContinuing) (least ws (is_leaving ws) b))) (right_returns typed b h r.values)
       ∙ ap (option_map (unfit e LeavingContinuing)) (free_least (is_leaving ws) b h (λ k l. unleaving f k (below_within b k h l) (control ws k) refl))
 
   after_function : (e n : ℕ) (t : Bool) (b : ℕ) → control ws e ≡ Function n t b → b < entries ws
@@ -158,7 +145,7 @@ module _ (ws : List ℕ) (w : WellFormed ws) where
   fit_book n =
       let each : (e : ℕ) → e < entries ws → fault_at ws e ≡ None = λ e h. first_each (fault_at ws) (entries ws) 0 e n (omega arith) (omega arith) in
       record {
-        continuings = λ e b x h is. (unfit-not (beyond_next (behavior ws b)) (unfit e LeavingContinuing e) None (sym (ap (fault_of ws e) is) ∙ each e h)).0;
+        continuings = λ e b x h is. (cond_is_none (beyond_next (behavior ws b)) (unfit e LeavingContinuing e) None (sym (ap (fault_of ws e) is) ∙ each e h)).0;
         functions = λ e m t b h is. fit_function e t b (after_function e m t b is) (sym (ap (fault_of ws e) is) ∙ each e h);
       }
 

@@ -1,7 +1,7 @@
 -- Which books are fit, and the first entry that is not.
 use Rattle.std.specs.Prelude.{◌≡◌, ℕ, ◌<◌, Bool, true, false, cond, not, ◌&&◌, ◌||◌, List, Some, None, Ok, Err, Option, Result}
-use Rattle.std.specs.Option.{option_map}
-use Rattle.layout.specs.First.{first_some, or_else}
+use Rattle.std.specs.Option.{option_map, option_or}
+use Rattle.layout.specs.First.{first_some}
 use Rattle.layout.specs.Layout.{entries}
 use Rattle.behavior.specs.Below.{Below, returning}
 use Rattle.control.specs.Control.{control}
@@ -39,7 +39,7 @@ abbrev pub function_fault : ℕ → Bool → ℕ → Summary → Option Unfit
 function_fault e typed b s =
     cond (s.behavior.breaks || s.behavior.continues) (Some (unfit e BreakOrContinue b))
     (cond (typed && s.behavior.next) (Some (unfit e NoReturn b))
-    (or_else (option_map (unfit e (cond typed MissingValue UnexpectedValue)) (cond typed s.bare s.valued))
+    (option_or (option_map (unfit e (cond typed MissingValue UnexpectedValue)) (cond typed s.bare s.valued))
     (option_map (unfit e LeavingContinuing) s.leaving)))
 
 -- A continuing at e, from the set of its body

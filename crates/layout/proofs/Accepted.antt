@@ -3,7 +3,7 @@ use Rattle.std.proofs.Common.{◌≡◌, ℕ, zero, suc, ◌+◌, ◌-◌, ◌*�
 use Rattle.std.specs.List.{slice_get}
 use Rattle.std.proofs.lemmas.Option.{none-some, same_Some}
 use Rattle.std.proofs.lemmas.Bool.{and_from, and_parts, cases_Bool, cases_eq, ltb-false, true≢false}
-use Rattle.layout.specs.First.{or_else}
+use Rattle.std.specs.Option.{option_or}
 use Rattle.layout.specs.Layout.{body_passes, end, entries, groups, groups_from, groups_pass, place, run_passes, shape, tail_from}
 use Rattle.shape.specs.Shapes.{fits}
 use Rattle.layout.specs.Verdict.{accepted, answer, at, child_fault, child_fits, first, layout_fault, left_over, refusal, sized, verdict}
@@ -12,7 +12,7 @@ use Rattle.layout.specs.declared.error.BookError.{BookError}
 use Rattle.layout.specs.declared.error.BookFault.TheVariants.{BadLength, WrongChild}
 use Rattle.shape.specs.declared.Field.{Field}
 use Rattle.layout.proofs.Bodies.{known_end}
-use Rattle.layout.proofs.Firsts.{neither}
+use Rattle.layout.proofs.Firsts.{cond_is_none, neither}
 use Rattle.layout.proofs.Refusals.{Laid, child_fine, each_first, first_each, laid, none_left, refused-children, refused-next, refused-sized, sizes, unlaid, unsized}
 
 module _ (t : Field → ℕ → Bool) (ws : List ℕ) where
@@ -101,10 +101,6 @@ child_passed : (b : Bool) → cond b None (Some WrongChild) ≡ None → b ≡ t
 child_passed true h = refl
 child_passed false h = let w : ◌≡◌ {A = ℕ} 0 1 = cc in absurd (omega arith)
 
-not_left : (b : Bool) (x : BookError) → cond b (Some x) None ≡ None → b ≡ false
-not_left true x h = let w : ◌≡◌ {A = ℕ} 0 1 = cc in absurd (omega arith)
-not_left false x h = refl
-
 child_passes : (ws : List ℕ) (e : ℕ) → child_fault ws e ≡ None → body_passes (child_fits ws e) ws (place ws e) ≡ true
 unfolding child_fault
 child_passes ws e h = child_passed (body_passes (child_fits ws e) ws (place ws e)) h
@@ -124,7 +120,7 @@ module _ (ws : List ℕ) where
       let b = neither (left_over ws) _ a.1 in
       let l : (e : ℕ) → e < entries ws → Laid ws e = λ e m. laid ws e (first_each (layout_fault ws) (entries ws) 0 e a.0 (omega arith) (omega arith)) in
       let last = l (entries ws - 1) (omega arith) in
-      let over = ltb-false (end ws (place ws (entries ws - 1))) (length ws) (not_left _ _ b.0) in
+      let over = ltb-false (end ws (place ws (entries ws - 1))) (length ws) (cond_is_none _ _ None b.0).0 in
       record {
         some = s.some;
         few = s.few;
@@ -161,7 +157,7 @@ module _ (ws : List ℕ) where
     pub formed : refusal ws ≡ None
     formed =
         refused-children ws formed_sized
-        (ap (λ o. or_else o (left_over ws)) (each_first (layout_fault ws) (entries ws) 0 (λ k a b. unlaid ws k (formed_laid k (omega arith))))
+        (ap (λ o. option_or o (left_over ws)) (each_first (layout_fault ws) (entries ws) 0 (λ k a b. unlaid ws k (formed_laid k (omega arith))))
         ∙ none_left ws (length ws) (sym w.ends) (omega arith))
         ∙ each_first (child_fault ws) (entries ws) 0
         (λ k a b. child_fine ws k (place ws k) refl (each_body (child_fits ws k) ws (place ws k) (w.children k (omega arith))))

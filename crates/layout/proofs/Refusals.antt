@@ -1,19 +1,19 @@
 -- The laws of the refusals: which test decides about an entry, and the first entry that is refused.
-use Rattle.std.proofs.Common.{◌≡◌, ℕ, ◌+◌, ◌-◌, ◌<◌, ◌≤◌, Bool, true, false, cond, not, ◌||◌, eqb, ltb, leb, ◌⊎◌, List, length, get_or, is_some, Some, None, Ok, Err, Option, sym, refl, ap, ◌∙◌, ⊎_elim, add-one, arith}
+use Rattle.std.proofs.Common.{◌≡◌, ℕ, ◌+◌, ◌-◌, ◌<◌, ◌≤◌, true, false, cond, not, ◌||◌, eqb, ltb, leb, ◌⊎◌, List, length, get_or, is_some, Some, None, Ok, Err, Option, sym, refl, ap, ◌∙◌, ⊎_elim, add-one, arith}
 use Rattle.std.proofs.lemmas.Bool.{and_from, and_parts, cond-false, cond-true, eq-eqb, eqb-true, le-leb, le-ltb, leb-false, leb-true, lt-ltb, ltb-false, ne_eqb, not-false, not_from_false, not_from_true, or_from, or_left, or_parts, or_right}
-use Rattle.layout.specs.First.{or_else}
+use Rattle.std.specs.Option.{option_or}
 use Rattle.layout.specs.Layout.{body_passes, construct, end, entries, place, start}
 use Rattle.shape.specs.Shapes.{fits}
 use Rattle.layout.specs.Verdict.{answer, at, body_fault, child_fault, child_fits, first, layout_fault, left_over, located, misplaced, refusal, sized}
 use Rattle.layout.proofs.Bodies.{body_there}
-use Rattle.layout.proofs.Firsts.{neither}
+use Rattle.layout.proofs.Firsts.{cond_is_none, mapped_is_none, neither}
 use Rattle.layout.proofs.Firsts as some
 use Rattle.layout.specs.declared.error.BookError.{BookError}
 use Rattle.layout.specs.declared.error.BookFault.{BookFault}
 use Rattle.layout.specs.declared.error.BookFault.TheVariants.{BadField, BadLength, BadPlace, WrongChild}
 
 -- A fault stays what it is, whatever comes behind it
-kept : (e : ℕ) (o r : Option BookFault) (b : BookError) → located e o ≡ Some b → located e (or_else o r) ≡ Some b
+kept : (e : ℕ) (o r : Option BookFault) (b : BookError) → located e o ≡ Some b → located e (option_or o r) ≡ Some b
 kept e None r b h = cc
 kept e (Some f) r b h = h
 
@@ -24,18 +24,18 @@ module _ (ws : List ℕ) (e q : ℕ) (starts : q ≡ start ws e) where
   elsewhere ne = cond-true _ _ _ (not_from_false _ (ne_eqb (place ws e) (start ws e) (λ same. ne (same ∙ sym starts))))
 
   module _ (here : place ws e ≡ q) where
-    layout_left : layout_fault ws e ≡ or_else (body_fault ws q) (cond (misplaced e (get_or ws q 0) || not (body_passes fits ws q)) (Some BadField) None)
+    layout_left : layout_fault ws e ≡ option_or (body_fault ws q) (cond (misplaced e (get_or ws q 0) || not (body_passes fits ws q)) (Some BadField) None)
     unfolding layout_fault
     layout_left =
         cond-false _ _ _ (not_from_true _ (eq-eqb _ _ (here ∙ starts)))
-        ∙ ap (λ p. or_else (body_fault ws p) (cond (misplaced e (get_or ws p 0) || not (body_passes fits ws p)) (Some BadField) None)) here
+        ∙ ap (λ p. option_or (body_fault ws p) (cond (misplaced e (get_or ws p 0) || not (body_passes fits ws p)) (Some BadField) None)) here
 
     pub faulty : (b : BookError) → located e (body_fault ws q) ≡ Some b → located e (layout_fault ws e) ≡ Some b
     faulty b h = ap (located e) layout_left ∙ kept e (body_fault ws q) _ b h
 
     module _ (whole : body_fault ws q ≡ None) where
       fields_left : layout_fault ws e ≡ cond (misplaced e (get_or ws q 0) || not (body_passes fits ws q)) (Some BadField) None
-      fields_left = layout_left ∙ ap (λ o. or_else o (cond (misplaced e (get_or ws q 0) || not (body_passes fits ws q)) (Some BadField) None)) whole
+      fields_left = layout_left ∙ ap (λ o. option_or o (cond (misplaced e (get_or ws q 0) || not (body_passes fits ws q)) (Some BadField) None)) whole
 
       pub unfit : (misplaced e (get_or ws q 0) ≡ true) ⊎ (body_passes fits ws q ≡ false) → layout_fault ws e ≡ Some BadField
       unfit h =
@@ -49,10 +49,6 @@ module _ (ws : List ℕ) (e q : ℕ) (starts : q ≡ start ws e) where
       fine m b = fields_left ∙ cond-false _ _ _ (or_from _ _ m (not_from_true _ b))
 
 -- The first entry with a fault
-mapped_none : (e : ℕ) (o : Option BookFault) → located e o ≡ None → o ≡ None
-mapped_none e None h = refl
-mapped_none e (Some b) h = cc
-
 module _ (f : ℕ → Option BookFault) where
   abbrev at_each : ℕ → Option BookError
   at_each e = located e (f e)
@@ -67,7 +63,7 @@ module _ (f : ℕ → Option BookFault) where
   first-none e n h = some.first-none at_each e n h
 
   pub first_each : (n e k : ℕ) → first f e n ≡ None → e ≤ k → k < e + n → f k ≡ None
-  first_each n e k h a b = mapped_none k (f k) (some.first_each at_each n e k h a b)
+  first_each n e k h a b = mapped_is_none (λ b. at b k) (f k) (some.first_each at_each n e k h a b)
 
   pub each_first : (n e : ℕ) → ((k : ℕ) → e ≤ k → k < e + n → f k ≡ None) → first f e n ≡ None
   each_first n e h = some.each_first at_each n e (λ k a b. ap (located k) (h k a b))
@@ -84,24 +80,20 @@ pub record Laid (ws : List ℕ) (e : ℕ) : Type 0 where
   pub unit : misplaced e (get_or ws (place ws e) 0) ≡ false
   pub fields : body_passes fits ws (place ws e) ≡ true
 
-refused-not : (t : Bool) (b : BookFault) (o : Option BookFault) → cond t (Some b) o ≡ None → (t ≡ false) × (o ≡ None)
-refused-not true b o h = let w : ◌≡◌ {A = ℕ} 0 1 = cc in absurd (omega arith)
-refused-not false b o h = (refl, h)
-
 whole-body : (ws : List ℕ) (p : ℕ) → body_fault ws p ≡ None → (p < length ws) × (is_some (construct ws p) ≡ true) × (end ws p ≤ length ws)
 whole-body ws p h =
-    let a = refused-not (leb (length ws) p) BadPlace _ h in
-    let b = refused-not (not (is_some (construct ws p))) BadField _ a.1 in
-    let c = refused-not (ltb (length ws) (end ws p)) BadPlace _ b.1 in
+    let a = cond_is_none (leb (length ws) p) BadPlace _ h in
+    let b = cond_is_none (not (is_some (construct ws p))) BadField _ a.1 in
+    let c = cond_is_none (ltb (length ws) (end ws p)) BadPlace _ b.1 in
     (leb-false (length ws) p a.0, not-false _ b.0, ltb-false (length ws) (end ws p) c.0)
 
 pub laid : (ws : List ℕ) (e : ℕ) → layout_fault ws e ≡ None → Laid ws e
 unfolding layout_fault
 laid ws e h =
-    let a = refused-not (not (eqb (place ws e) (start ws e))) BadPlace _ h in
+    let a = cond_is_none (not (eqb (place ws e) (start ws e))) BadPlace _ h in
     let b = neither (body_fault ws (place ws e)) _ a.1 in
     let c = whole-body ws (place ws e) b.0 in
-    let d = refused-not (misplaced e (get_or ws (place ws e) 0) || not (body_passes fits ws (place ws e))) BadField _ b.1 in
+    let d = cond_is_none (misplaced e (get_or ws (place ws e) 0) || not (body_passes fits ws (place ws e))) BadField _ b.1 in
     let f = or_parts (misplaced e (get_or ws (place ws e) 0)) (not (body_passes fits ws (place ws e))) d.0 in
     record {
       here = eqb-true _ _ (not-false _ a.0);
@@ -150,30 +142,30 @@ module _ (ws : List ℕ) where
   pub refused-sized : sized ws ≡ false → refusal ws ≡ Some (at BadLength 0)
   unfolding refusal
   refused-sized h =
-      ap (λ o. or_else o (or_else (first (layout_fault ws) 0 (entries ws)) (or_else (left_over ws) (first (child_fault ws) 0 (entries ws)))))
+      ap (λ o. option_or o (option_or (first (layout_fault ws) 0 (entries ws)) (option_or (left_over ws) (first (child_fault ws) 0 (entries ws)))))
       (cond-false (sized ws) None (Some (at BadLength 0)) h)
 
   module _ (h : sized ws ≡ true) where
-    pub refused-next : refusal ws ≡ or_else (first (layout_fault ws) 0 (entries ws)) (or_else (left_over ws) (first (child_fault ws) 0 (entries ws)))
+    pub refused-next : refusal ws ≡ option_or (first (layout_fault ws) 0 (entries ws)) (option_or (left_over ws) (first (child_fault ws) 0 (entries ws)))
     unfolding refusal
     refused-next =
-        ap (λ o. or_else o (or_else (first (layout_fault ws) 0 (entries ws)) (or_else (left_over ws) (first (child_fault ws) 0 (entries ws)))))
+        ap (λ o. option_or o (option_or (first (layout_fault ws) 0 (entries ws)) (option_or (left_over ws) (first (child_fault ws) 0 (entries ws)))))
         (cond-true (sized ws) None (Some (at BadLength 0)) h)
 
-  or_else_assoc : (a b c : Option BookError) → or_else (or_else a b) c ≡ or_else a (or_else b c)
-  or_else_assoc None b c = refl
-  or_else_assoc (Some x) b c = refl
+  or_assoc : (a b c : Option BookError) → option_or (option_or a b) c ≡ option_or a (option_or b c)
+  or_assoc None b c = refl
+  or_assoc (Some x) b c = refl
 
   -- the layout is refused
-  pub refused_layout : (b : BookError) → sized ws ≡ true → or_else (first (layout_fault ws) 0 (entries ws)) (left_over ws) ≡ Some b → refusal ws ≡ Some b
+  pub refused_layout : (b : BookError) → sized ws ≡ true → option_or (first (layout_fault ws) 0 (entries ws)) (left_over ws) ≡ Some b → refusal ws ≡ Some b
   refused_layout b h e =
-      refused-next h ∙ sym (or_else_assoc (first (layout_fault ws) 0 (entries ws)) (left_over ws) _)
-      ∙ ap (λ o. or_else o (first (child_fault ws) 0 (entries ws))) e
+      refused-next h ∙ sym (or_assoc (first (layout_fault ws) 0 (entries ws)) (left_over ws) _)
+      ∙ ap (λ o. option_or o (first (child_fault ws) 0 (entries ws))) e
 
-  pub refused-children : sized ws ≡ true → or_else (first (layout_fault ws) 0 (entries ws)) (left_over ws) ≡ None → refusal ws ≡ first (child_fault ws) 0 (entries ws)
+  pub refused-children : sized ws ≡ true → option_or (first (layout_fault ws) 0 (entries ws)) (left_over ws) ≡ None → refusal ws ≡ first (child_fault ws) 0 (entries ws)
   refused-children h e =
-      refused-next h ∙ sym (or_else_assoc (first (layout_fault ws) 0 (entries ws)) (left_over ws) _)
-      ∙ ap (λ o. or_else o (first (child_fault ws) 0 (entries ws))) e
+      refused-next h ∙ sym (or_assoc (first (layout_fault ws) 0 (entries ws)) (left_over ws) _)
+      ∙ ap (λ o. option_or o (first (child_fault ws) 0 (entries ws))) e
 
 -- An answer tells its refusal
 pub answer_ok : (o : Option BookError) → Ok tt ≡ answer o → o ≡ None

@@ -1,7 +1,7 @@
 -- What load answers: the first refusal, in the order of the tests.
 use Rattle.std.specs.Prelude.{ℕ, zero, suc, ◌+◌, ◌-◌, Bool, true, cond, not, ◌&&◌, ◌||◌, List, [], ◌∷◌, length, is_some, Some, None, Ok, Err, Option, Result, ◌==◌, nat_le, nat_lt, slice_index, codes}
-use Rattle.std.specs.Option.{option_map}
-use Rattle.layout.specs.First.{first_some, or_else}
+use Rattle.std.specs.Option.{option_map, option_or}
+use Rattle.layout.specs.First.{first_some}
 use Rattle.layout.specs.Layout.{body_passes, construct, end, entries, place, start}
 use Rattle.shape.specs.Shapes.{fits, takes}
 use Rattle.layout.specs.declared.error.BookError.{BookError}
@@ -46,7 +46,7 @@ body_fault ws p =
 unfoldable pub layout_fault : List ℕ → ℕ → Option BookFault
 layout_fault ws e =
     cond (not (place ws e == start ws e)) (Some BadPlace)
-    (or_else (body_fault ws (place ws e))
+    (option_or (body_fault ws (place ws e))
     (cond (misplaced e (slice_index ws (place ws e)) || not (body_passes fits ws (place ws e))) (Some BadField)
     None))
 
@@ -84,8 +84,8 @@ left_over ws =
 -- children
 unfoldable pub refusal : List ℕ → Option BookError
 refusal ws =
-    or_else (cond (sized ws) None (Some (at BadLength 0)))
-    (or_else (first (layout_fault ws) 0 (entries ws)) (or_else (left_over ws) (first (child_fault ws) 0 (entries ws))))
+    option_or (cond (sized ws) None (Some (at BadLength 0)))
+    (option_or (first (layout_fault ws) 0 (entries ws)) (option_or (left_over ws) (first (child_fault ws) 0 (entries ws))))
 
 abbrev pub answer : Option BookError → Result (Unit {0}) BookError
 answer None = Ok tt

@@ -1,6 +1,6 @@
 // The judgment: whether words are a book, and why not.
 ghost use Rattle.std.specs.Prelude.{◌≡◌, ℕ, ◌<◌, is_ok, Some, None, Decides, MatchResult};
-ghost use Rattle.layout.specs.First.{or_else};
+ghost use Rattle.std.specs.Option.{option_or};
 ghost use Rattle.layout.specs.Layout.{body_passes, end, entries, place, start};
 ghost use Rattle.layout.specs.Verdict.{answer, child_fault, child_fits, first, layout_fault, left_over, located, misplaced, verdict};
 ghost use Rattle.layout.specs.WellFormed.{WellFormed};
@@ -34,7 +34,7 @@ fn check_body(draft: &Draft, e: u16, at: usize) -> Result<usize, BookError>
 
 // Walks the bodies in order, and sees that no word is left over.
 fn lay_out(draft: &Draft) -> Result<(), BookError>
-    ensures { result ≡ answer (or_else (first (layout_fault draft.now.words.now) 0 (entries draft.now.words.now)) (left_over draft.now.words.now)) }
+    ensures { result ≡ answer (option_or (first (layout_fault draft.now.words.now) 0 (entries draft.now.words.now)) (left_over draft.now.words.now)) }
 {
     let n = draft.entries();
     let mut at = n as usize + 1;

@@ -1,6 +1,6 @@
 use Rattle.std.proofs.Common.{◌≡◌, Err, sym, ap, ◌∙◌, arith}
 use Rattle.std.proofs.lemmas.Result.{err_from_is_err_and}
-use Rattle.layout.specs.First.{or_else}
+use Rattle.std.specs.Option.{option_or}
 use Rattle.layout.specs.Layout.{entries}
 use Rattle.layout.specs.Verdict.{answer, layout_fault, left_over}
 use Rattle.layout.proofs.Refusals.{first_hit, first_more, first-none, left_over_lem, none_left, sizes, start-last, start_more}
@@ -11,7 +11,7 @@ returns-in_err-at c =
     let ws = c.args.draft.now.words.now in
     let p = err_from_is_err_and c.from_residual.result c.from_residual.ensures.1 in
     p.1 ∙ ap Err p.2
-    ∙ sym (ap (λ o. answer (or_else o (left_over ws)))
+    ∙ sym (ap (λ o. answer (option_or o (left_over ws)))
     (sym c.loop-e.invariant.1 ∙ first_hit (layout_fault ws) c.loop-e.e c.entries-n.result c.in_err-at.field-0.0 (omega arith) c.in_err-at.ensures))
 
 pub loop-e-preserved : goal.loop-e-preserved
@@ -29,7 +29,7 @@ returns-then-at-length c =
     let n = c.entries-n.ensures in
     let e : c.loop-e.e ≡ entries ws = omega arith in
     let l : left_over ws ≡ _ = left_over_lem ws c.loop-e.at c.entries-n.result n (c.loop-e.invariant.0 ∙ start-last ws c.loop-e.e e s.some) (omega arith) in
-    sym (ap (λ o. answer (or_else o (left_over ws))) (sym c.loop-e.invariant.1 ∙ first-none (layout_fault ws) c.loop-e.e c.entries-n.result (omega arith))
+    sym (ap (λ o. answer (option_or o (left_over ws))) (sym c.loop-e.invariant.1 ∙ first-none (layout_fault ws) c.loop-e.e c.entries-n.result (omega arith))
     ∙ ap answer l ∙ ap Err (sym c.at.ensures))
 
 pub returns : goal.returns
@@ -39,5 +39,5 @@ returns c =
     let n = c.entries-n.ensures in
     let e : c.loop-e.e ≡ entries ws = omega arith in
     let l = none_left ws c.loop-e.at (c.loop-e.invariant.0 ∙ start-last ws c.loop-e.e e s.some) (omega arith) in
-    sym (ap (λ o. answer (or_else o (left_over ws))) (sym c.loop-e.invariant.1 ∙ first-none (layout_fault ws) c.loop-e.e c.entries-n.result (omega arith))
+    sym (ap (λ o. answer (option_or o (left_over ws))) (sym c.loop-e.invariant.1 ∙ first-none (layout_fault ws) c.loop-e.e c.entries-n.result (omega arith))
     ∙ ap answer l)

@@ -13,8 +13,7 @@ use Rattle.shape.specs.declared.Field.{Field}
 use Rattle.shape.specs.declared.Field.TheVariants as F
 use Rattle.book.specs.Children.{AreChildren, Children, HaveBodies, HaveConditions, HaveSelectors, IsChild, MayBeChild}
 use Rattle.layout.specs.Layout.{construct, entries, groups, groups_from, place, shape, tail_from}
-use Rattle.book.specs.Nodes.{decode, node_at, optional}
-use Rattle.book.specs.Lists.{items, pairs}
+use Rattle.book.specs.Nodes.{decode, items, listed, node_at, optional, paired, pairs}
 use Rattle.layout.specs.Verdict.{accepted, child_fits, is_child}
 use Rattle.layout.specs.WellFormed.{EachField, WellFormed}
 use Rattle.layout.proofs.Accepted.{loaded}
@@ -66,15 +65,15 @@ module _ (ws : List ℕ) (e : ℕ) where
   some_one : {X : Type 0} (o : Option X) (x : X) → o ≡ None → o ≡ Some x → ⊥
   some_one o x n h = let w : ◌≡◌ {A = ℕ} 0 1 = cc in omega arith
 
-  from_listed : (s n i c : ℕ) → slice_get (items ws s n) i ≡ Some c → (i < n) × (c ≡ get_or ws (s + i) 0)
+  from_listed : (s n i c : ℕ) → slice_get (listed ws (items s n)) i ≡ Some c → (i < n) × (c ≡ get_or ws (s + i) 0)
   from_listed s n i c h =
       ⊎_elim
       (λ l.
-      ⊎_elim (λ k. let r = listed_at ws s n i l k in (l, cc)) (λ k. absurd (some_one (slice_get (items ws s n) i) c (listed_past ws s n i (inr k)) h))
+      ⊎_elim (λ k. let r = listed_at ws s n i l k in (l, cc)) (λ k. absurd (some_one (slice_get (listed ws (items s n)) i) c (listed_past ws s n i (inr k)) h))
       (cases_lt (s + i) (length ws)))
-      (λ l. absurd (some_one (slice_get (items ws s n) i) c (listed_past ws s n i (inl l)) h)) (cases_lt i n)
+      (λ l. absurd (some_one (slice_get (listed ws (items s n)) i) c (listed_past ws s n i (inl l)) h)) (cases_lt i n)
 
-  from_paired : (s n i : ℕ) (q : ℕ × ℕ) → slice_get (pairs ws s n) i ≡ Some q → (i < n) × (q.0 ≡ get_or ws (s + 2 * i) 0) × (q.1 ≡ get_or ws (s + 2 * i + 1) 0)
+  from_paired : (s n i : ℕ) (q : ℕ × ℕ) → slice_get (paired ws (pairs s n)) i ≡ Some q → (i < n) × (q.0 ≡ get_or ws (s + 2 * i) 0) × (q.1 ≡ get_or ws (s + 2 * i + 1) 0)
   from_paired s n i q h =
       ⊎_elim
       (λ l.
@@ -83,9 +82,9 @@ module _ (ws : List ℕ) (e : ℕ) where
       let r = paired_at ws s n i l k in
       let m : q ≡ (get_or ws (s + 2 * i) 0, get_or ws (s + 2 * i + 1) 0) = cc in
       (l, ap (λ (x : ℕ × ℕ). x.0) m, ap (λ (x : ℕ × ℕ). x.1) m))
-      (λ k. absurd (some_one (slice_get (pairs ws s n) i) q (paired_past ws s n i (inr k)) h))
+      (λ k. absurd (some_one (slice_get (paired ws (pairs s n)) i) q (paired_past ws s n i (inr k)) h))
       (cases_lt (s + 2 * i + 1) (length ws)))
-      (λ l. absurd (some_one (slice_get (pairs ws s n) i) q (paired_past ws s n i (inl l)) h)) (cases_lt i n)
+      (λ l. absurd (some_one (slice_get (paired ws (pairs s n)) i) q (paired_past ws s n i (inl l)) h)) (cases_lt i n)
 
   found_mapped : {X : Type 0} (f : X → Node) (P : Node → Type 0) (o : Option X) → ((x : X) → P (f x)) → IfSome (option_map f o) P
   found_mapped f P None h = tt
@@ -101,7 +100,7 @@ module _ (ws : List ℕ) (e : ℕ) where
     optional-at c is i k kind at f =
         may_be_child kind (get_or ws k 0) (sym (ap (λ x. eqb (get_or ws x 0) 0 || is_child ws e kind (get_or ws x 0)) at) ∙ head p each c is i (F.Optional kind) f)
 
-    list_at : (c : Construct) (is : construct ws p ≡ Some c) (h : ℕ) (kind : Child) → length (layout_of c).head ≡ h → length (layout_of c).group ≡ 1 → slice_get (layout_of c).group 0 ≡ Some (F.Child kind) → AreChildren ws e kind (items ws (p + (h + 1)) (get_or ws (p + h) 0))
+    list_at : (c : Construct) (is : construct ws p ≡ Some c) (h : ℕ) (kind : Child) → length (layout_of c).head ≡ h → length (layout_of c).group ≡ 1 → slice_get (layout_of c).group 0 ≡ Some (F.Child kind) → AreChildren ws e kind (items (p + (h + 1)) (get_or ws (p + h) 0))
     list_at c is h kind sh sg f i w n =
         let a = from_listed (p + (h + 1)) (get_or ws (p + h) 0) i w n in
         let g = group p each c is h 0 i 0 (F.Child kind) sh sg a.0 f in
@@ -109,21 +108,21 @@ module _ (ws : List ℕ) (e : ℕ) where
         is_child_lem kind w (ap (is_child ws e kind) a.1 ∙ sym (ap (λ x. is_child ws e kind (get_or ws x 0)) q) ∙ g)
 
     -- the second part of each pair is a body
-    bodies_at : (c : Construct) (is : construct ws p ≡ Some c) (h : ℕ) → length (layout_of c).head ≡ h → length (layout_of c).group ≡ 2 → slice_get (layout_of c).group 1 ≡ Some (F.Child C.Body) → HaveBodies ws e (pairs ws (p + (h + 1)) (get_or ws (p + h) 0))
+    bodies_at : (c : Construct) (is : construct ws p ≡ Some c) (h : ℕ) → length (layout_of c).head ≡ h → length (layout_of c).group ≡ 2 → slice_get (layout_of c).group 1 ≡ Some (F.Child C.Body) → HaveBodies ws e (pairs (p + (h + 1)) (get_or ws (p + h) 0))
     bodies_at c is h sh sg f i w n =
         let a = from_paired (p + (h + 1)) (get_or ws (p + h) 0) i w n in
         let g = group p each c is h 1 i 1 (F.Child C.Body) sh sg a.0 f in
         let q : p + 1 + h + 2 * i + 1 ≡ p + (h + 1) + 2 * i + 1 = omega arith in
         is_child_lem C.Body w.1 (ap (is_child ws e C.Body) a.2 ∙ sym (ap (λ x. is_child ws e C.Body (get_or ws x 0)) q) ∙ g)
 
-    conditions_at : (c : Construct) (is : construct ws p ≡ Some c) (h : ℕ) → length (layout_of c).head ≡ h → length (layout_of c).group ≡ 2 → slice_get (layout_of c).group 0 ≡ Some (F.Child C.Expression) → HaveConditions ws e (pairs ws (p + (h + 1)) (get_or ws (p + h) 0))
+    conditions_at : (c : Construct) (is : construct ws p ≡ Some c) (h : ℕ) → length (layout_of c).head ≡ h → length (layout_of c).group ≡ 2 → slice_get (layout_of c).group 0 ≡ Some (F.Child C.Expression) → HaveConditions ws e (pairs (p + (h + 1)) (get_or ws (p + h) 0))
     conditions_at c is h sh sg f i w n =
         let a = from_paired (p + (h + 1)) (get_or ws (p + h) 0) i w n in
         let g = group p each c is h 1 i 0 (F.Child C.Expression) sh sg a.0 f in
         let q : p + 1 + h + 2 * i + 0 ≡ p + (h + 1) + 2 * i = omega arith in
         is_child_lem C.Expression w.0 (ap (is_child ws e C.Expression) a.1 ∙ sym (ap (λ x. is_child ws e C.Expression (get_or ws x 0)) q) ∙ g)
 
-    selectors_at : (c : Construct) (is : construct ws p ≡ Some c) (h : ℕ) → length (layout_of c).head ≡ h → length (layout_of c).group ≡ 2 → slice_get (layout_of c).group 0 ≡ Some (F.Optional C.Expression) → HaveSelectors ws e (pairs ws (p + (h + 1)) (get_or ws (p + h) 0))
+    selectors_at : (c : Construct) (is : construct ws p ≡ Some c) (h : ℕ) → length (layout_of c).head ≡ h → length (layout_of c).group ≡ 2 → slice_get (layout_of c).group 0 ≡ Some (F.Optional C.Expression) → HaveSelectors ws e (pairs (p + (h + 1)) (get_or ws (p + h) 0))
     selectors_at c is h sh sg f i w n nz =
         let a = from_paired (p + (h + 1)) (get_or ws (p + h) 0) i w n in
         let g = group p each c is h 1 i 0 (F.Optional C.Expression) sh sg a.0 f in

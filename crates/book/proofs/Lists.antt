@@ -1,7 +1,8 @@
 -- What stands in the lists of a book.
 use Rattle.std.proofs.Common.{◌≡◌, ℕ, zero, suc, ◌+◌, ◌*◌, ◌/◌, ◌<◌, ◌≤◌, List, [], ◌∷◌, length, map, refl, ap, arith}
 use Rattle.std.specs.Simd.{first_chunks}
-use Rattle.book.specs.Lists.{as_pair, twos}
+use Rattle.book.specs.Lists.{as_pair}
+use Rattle.book.specs.Nodes.{twos}
 
 -- words cut in twos are pairs
 twos_chunks : (k : ℕ) (ws : List ℕ) → 2 * k ≤ length ws → length ws < 2 * k + 2 → map as_pair (first_chunks 2 k ws) ≡ twos ws

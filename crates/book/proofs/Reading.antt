@@ -6,12 +6,13 @@ use Rattle.std.proofs.lemmas.Option.{slice_get-get_or, slice_get_past}
 use Rattle.std.proofs.lemmas.Bool.{and_parts, cond_both, cond-false, cond-true, leb-true, le-ltb, lt-ltb, ltb-false, ltb-true}
 use Rattle.syntax.specs.Numbers.{binary_operators, declaration_kinds, short_circuits, unary_operators}
 use Rattle.layout.specs.Layout.{construct, entries, place}
-use Rattle.book.specs.Nodes.{assignment_node, binary_node, decode, node_at}
-use Rattle.book.specs.Lists.{twos}
+use Rattle.book.specs.Nodes.{assignment_node, binary_node, decode, listed, node_at, paired, twos}
 use Rattle.shape.specs.Shapes.{fits, layout_of, shape_of}
 use Rattle.layout.specs.WellFormed.{EachField, WellFormed}
+use Rattle.book.specs.declared.node.Items.{Items}
 use Rattle.book.specs.declared.node.Node.{Node}
 use Rattle.book.specs.declared.node.Node.TheVariants as N
+use Rattle.book.specs.declared.node.Pairs.{Pairs}
 use Rattle.shape.specs.declared.Construct.{Construct}
 use Rattle.shape.specs.declared.Construct.TheVariants.{Unit as UnitEntry, Empty, Compound, Assignment, Increment, Decrement, If, Switch, Loop, For, While, Break, Continue, Return, Discard, CallStatement, ConstAssert, Declaration, Continuing, Literal, Parenthesized, Unary, Binary, Name, Call, Function}
 use Rattle.shape.specs.declared.Field.TheVariants as F
@@ -147,3 +148,18 @@ module _ (ws : List ℕ) (e : ℕ) where
   every_entry w h =
       ap is_some (node_within h (place ws e) refl (construct ws (place ws e)) refl)
       ∙ every_node ws (place ws e) (w.fields e h) (construct ws (place ws e)) refl (w.tags e h)
+
+-- No list is longer than its span says
+pub listed-length : (ws : List ℕ) (s : Items) → length (listed ws s) ≤ s.count
+listed-length ws s = let l = part_length ws s.start s.count in omega arith
+
+twos-length : (xs : List ℕ) → 2 * length (twos xs) ≤ length xs
+twos-length [] = omega arith
+twos-length (a ∷ []) = omega arith
+twos-length (a ∷ b ∷ xs) = let r = twos-length xs in omega arith
+
+pub paired-length : (ws : List ℕ) (s : Pairs) → length (paired ws s) ≤ s.count
+paired-length ws s =
+    let l = part_length ws s.start (2 * s.count) in
+    let t = twos-length (take (2 * s.count) (drop s.start ws)) in
+    omega arith

@@ -5,8 +5,11 @@ use Rattle.shape.specs.Shapes.{takes}
 use Rattle.shape.specs.declared.Child.{Child}
 use Rattle.shape.specs.declared.Child.TheVariants.{Body, Call, Continuing, Expression, Initializer, Member, Statement, Update}
 use Rattle.layout.specs.Layout.{entries, place}
+use Rattle.book.specs.Nodes.{listed, paired}
+use Rattle.book.specs.declared.node.Items.{Items}
 use Rattle.book.specs.declared.node.Node.{Node}
 use Rattle.book.specs.declared.node.Node.TheVariants as N
+use Rattle.book.specs.declared.node.Pairs.{Pairs}
 
 -- c is an entry larger than e, of a tag that a field of the kind takes
 abbrev pub IsChild : List ℕ → ℕ → Child → ℕ → Type 0
@@ -17,20 +20,20 @@ MayBeChild ws e kind None = Unit {0}
 MayBeChild ws e kind (Some c) = IsChild ws e kind c
 
 -- each of a list
-abbrev pub AreChildren : List ℕ → ℕ → Child → List ℕ → Type 0
-AreChildren ws e kind s = (i c : ℕ) → slice_get s i ≡ Some c → IsChild ws e kind c
+abbrev pub AreChildren : List ℕ → ℕ → Child → Items → Type 0
+AreChildren ws e kind s = (i c : ℕ) → slice_get (listed ws s) i ≡ Some c → IsChild ws e kind c
 
 -- the body of each clause
-abbrev pub HaveBodies : List ℕ → ℕ → List (ℕ × ℕ) → Type 0
-HaveBodies ws e s = (i : ℕ) (p : ℕ × ℕ) → slice_get s i ≡ Some p → IsChild ws e Body p.1
+abbrev pub HaveBodies : List ℕ → ℕ → Pairs → Type 0
+HaveBodies ws e s = (i : ℕ) (p : ℕ × ℕ) → slice_get (paired ws s) i ≡ Some p → IsChild ws e Body p.1
 
 -- the condition of each clause, and its selector, which is 0 for default
-abbrev pub HaveConditions : List ℕ → ℕ → List (ℕ × ℕ) → Type 0
-HaveConditions ws e s = (i : ℕ) (p : ℕ × ℕ) → slice_get s i ≡ Some p → IsChild ws e Expression p.0
+abbrev pub HaveConditions : List ℕ → ℕ → Pairs → Type 0
+HaveConditions ws e s = (i : ℕ) (p : ℕ × ℕ) → slice_get (paired ws s) i ≡ Some p → IsChild ws e Expression p.0
 
-abbrev pub HaveSelectors : List ℕ → ℕ → List (ℕ × ℕ) → Type 0
+abbrev pub HaveSelectors : List ℕ → ℕ → Pairs → Type 0
 HaveSelectors ws e s =
-    (i : ℕ) (p : ℕ × ℕ) → slice_get s i ≡ Some p → (p.0 ≢ 0) → IsChild ws e Expression p.0
+    (i : ℕ) (p : ℕ × ℕ) → slice_get (paired ws s) i ≡ Some p → (p.0 ≢ 0) → IsChild ws e Expression p.0
 
 abbrev pub Children : List ℕ → ℕ → Node → Type 0
 Children ws e (N.Unit s) = AreChildren ws e Member s

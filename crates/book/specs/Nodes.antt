@@ -1,12 +1,13 @@
 -- What an entry says, as a reader of the book sees it.
-use Rattle.std.specs.Prelude.{ℕ, ◌+◌, ◌-◌, ◌*◌, ◌%◌, cond, List, [], ◌∷◌, Some, None, Option, ◌==◌, nat_le, nat_lt, slice_index}
+use Rattle.std.specs.Prelude.{ℕ, ◌+◌, ◌-◌, ◌*◌, ◌%◌, cond, List, [], ◌∷◌, take, drop, Some, None, Option, ◌==◌, nat_le, nat_lt, slice_index}
 use Rattle.std.specs.Option.{option_map}
 use Rattle.std.specs.List.{slice_get}
 use Rattle.syntax.specs.Numbers.{binary_operators, declaration_kinds, short_circuits, unary_operators}
 use Rattle.layout.specs.Layout.{construct, entries, place}
-use Rattle.book.specs.Lists.{items, pairs}
+use Rattle.book.specs.declared.node.Items.{Items}
 use Rattle.book.specs.declared.node.Node.{Node}
 use Rattle.book.specs.declared.node.Node.TheVariants as N
+use Rattle.book.specs.declared.node.Pairs.{Pairs}
 use Rattle.shape.specs.declared.Construct.{Construct}
 use Rattle.shape.specs.declared.Construct.TheVariants.{Unit as UnitEntry, Empty, Compound, Assignment, Increment, Decrement, If, Switch, Loop, For, While, Break, Continue, Return, Discard, CallStatement, ConstAssert, Declaration, Continuing, Literal, Parenthesized, Unary, Binary, Name, Call, Function}
 
@@ -31,9 +32,15 @@ binary_node n l r =
 abbrev pub unary_node : ℕ → ℕ → Option Node
 unary_node n e = option_map (λ op. N.Unary op e) (slice_get unary_operators n)
 
+abbrev pub items : ℕ → ℕ → Items
+items from k = record { start = from; count = k }
+
+abbrev pub pairs : ℕ → ℕ → Pairs
+pairs from k = record { start = from; count = k }
+
 -- behind its clauses an `if` has the body of its else
 abbrev pub if_node : List ℕ → ℕ → Node
-if_node ws p = N.If (pairs ws (p + 2) (slice_index ws (p + 1))) (optional (slice_index ws (p + 2 + 2 * slice_index ws (p + 1))))
+if_node ws p = N.If (pairs (p + 2) (slice_index ws (p + 1))) (optional (slice_index ws (p + 2 + 2 * slice_index ws (p + 1))))
 
 abbrev pub for_node : List ℕ → ℕ → Node
 for_node ws p =
@@ -53,18 +60,18 @@ literal_node ws p =
 abbrev pub function_node : List ℕ → ℕ → Node
 function_node ws p =
     N.Function (slice_index ws (p + 1)) (slice_index ws (p + 2) % 2 == 1) (nat_le 2 (slice_index ws (p + 2)))
-    (optional_type (slice_index ws (p + 3))) (slice_index ws (p + 4)) (pairs ws (p + 6) (slice_index ws (p + 5)))
+    (optional_type (slice_index ws (p + 3))) (slice_index ws (p + 4)) (pairs (p + 6) (slice_index ws (p + 5)))
 
 -- The node of a construct whose body stands at p
 abbrev pub node_of : Construct → List ℕ → ℕ → Option Node
-node_of UnitEntry ws p = Some (N.Unit (items ws (p + 2) (slice_index ws (p + 1))))
+node_of UnitEntry ws p = Some (N.Unit (items (p + 2) (slice_index ws (p + 1))))
 node_of Empty ws p = Some N.Empty
-node_of Compound ws p = Some (N.Compound (items ws (p + 2) (slice_index ws (p + 1))))
+node_of Compound ws p = Some (N.Compound (items (p + 2) (slice_index ws (p + 1))))
 node_of Assignment ws p = assignment_node (slice_index ws (p + 1)) (slice_index ws (p + 2)) (slice_index ws (p + 3))
 node_of Increment ws p = Some (N.Increment (slice_index ws (p + 1)))
 node_of Decrement ws p = Some (N.Decrement (slice_index ws (p + 1)))
 node_of If ws p = Some (if_node ws p)
-node_of Switch ws p = Some (N.Switch (slice_index ws (p + 1)) (pairs ws (p + 3) (slice_index ws (p + 2))))
+node_of Switch ws p = Some (N.Switch (slice_index ws (p + 1)) (pairs (p + 3) (slice_index ws (p + 2))))
 node_of Loop ws p = Some (N.Loop (slice_index ws (p + 1)) (optional (slice_index ws (p + 2))))
 node_of For ws p = Some (for_node ws p)
 node_of While ws p = Some (N.While (slice_index ws (p + 1)) (slice_index ws (p + 2)))
@@ -81,7 +88,7 @@ node_of Parenthesized ws p = Some (N.Parenthesized (slice_index ws (p + 1)))
 node_of Unary ws p = unary_node (slice_index ws (p + 1)) (slice_index ws (p + 2))
 node_of Binary ws p = binary_node (slice_index ws (p + 1)) (slice_index ws (p + 2)) (slice_index ws (p + 3))
 node_of Name ws p = Some (N.Name (slice_index ws (p + 1)))
-node_of Call ws p = Some (N.Call (slice_index ws (p + 1)) (items ws (p + 3) (slice_index ws (p + 2))))
+node_of Call ws p = Some (N.Call (slice_index ws (p + 1)) (items (p + 3) (slice_index ws (p + 2))))
 node_of Function ws p = Some (function_node ws p)
 
 abbrev pub decode : Option Construct → List ℕ → ℕ → Option Node
@@ -91,3 +98,15 @@ decode (Some c) ws p = node_of c ws p
 -- What an entry says; none past the last
 unfoldable pub node_at : List ℕ → ℕ → Option Node
 node_at ws e = cond (nat_lt e (entries ws)) (decode (construct ws (place ws e)) ws (place ws e)) None
+
+-- The words of a list, and its pairs
+abbrev pub listed : List ℕ → Items → List ℕ
+listed ws s = take s.count (drop s.start ws)
+
+abbrev pub twos : List ℕ → List (ℕ × ℕ)
+twos [] = []
+twos (a ∷ []) = []
+twos (a ∷ b ∷ ws) = (a, b) ∷ twos ws
+
+abbrev pub paired : List ℕ → Pairs → List (ℕ × ℕ)
+paired ws s = twos (take (2 * s.count) (drop s.start ws))

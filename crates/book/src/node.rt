@@ -1,11 +1,10 @@
 // What an entry of a loaded book says.
-ghost use Rattle.std.specs.Prelude.{◌≡◌, ◌≤◌, length, is_some, IfSome, nat_lt};
+ghost use Rattle.std.specs.Prelude.{◌≡◌, ◌*◌, ◌≤◌, length, take, drop, is_some, IfSome, nat_lt};
 ghost use Rattle.std.specs.List.{slice_get};
 ghost use Rattle.std.specs.Iterator.{YieldsFirst, item_count};
 ghost use Rattle.book.specs.Children.{Children};
 ghost use Rattle.layout.specs.Layout.{entries};
-ghost use Rattle.book.specs.Lists.{items, pairs};
-ghost use Rattle.book.specs.Nodes.{node_at, node_of, optional, optional_type};
+ghost use Rattle.book.specs.Nodes.{listed, node_at, node_of, optional, optional_type, paired};
 
 use crate::book::Book;
 use layout::walk::{construct_at, word};
@@ -13,120 +12,29 @@ use shape::Construct;
 use std::marker::Model;
 use syntax::{BinaryOperator, DeclarationKind, ShortCircuit, UnaryOperator};
 
-// A list of words in the book, which are read in turn. It can't be copied, since contracts see the words and not where they
-// lie; `iter` gives it once more.
-#[derive(Drop)]
-pub struct Items<'a> {
-    words: &'a [u16],
+// A list of words in the book.
+#[derive(Clone, Copy)]
+pub struct Items {
+    pub start: usize,
+    pub count: u16,
 }
 
-impl<'a> Model for Items<'a> {
-    ghost use Rattle.std.specs.Prelude.{ℕ, List};
-
-    ghost Value = { List ℕ };
-
-    ghost view = { λ s. s.words.now };
+// A list of pairs of words in the book.
+#[derive(Clone, Copy)]
+pub struct Pairs {
+    pub start: usize,
+    pub count: u16,
 }
 
-impl<'a> Items<'a> {
-    // The list, to read it and keep it.
-    pub fn iter(&self) -> Items<'a>
-        ensures { result ≡ self.now }
-    {
-        Items { words: self.words }
-    }
-
-    // How many words are left.
-    pub fn len(&self) -> usize
-        ensures { result ≡ length self.now }
-    {
-        self.words.len()
-    }
-
-    // The i-th word, none past the end.
-    pub fn get(&self, i: usize) -> Option<u16>
-        ensures { result ≡ slice_get self.now i }
-    {
-        self.words.get(i).copied()
-    }
-}
-
-impl<'a> Iterator for Items<'a> {
-    type Item = u16;
-
-    ghost next_gives = { YieldsFirst (λ s. s) };
-
-    ghost remaining = { item_count (λ s. s) };
-
-    fn next(&mut self) -> Option<u16> {
-        let (first, rest) = self.words.split_first()?;
-        self.words = rest;
-        Some(*first)
-    }
-}
-
-// A list of pairs of words in the book, which are read in turn. It is a type of its own, since a list of `T` would show
-// contracts a pair as a list of two words.
-#[derive(Drop)]
-pub struct Pairs<'a> {
-    pairs: &'a [[u16; 2]],
-}
-
-impl<'a> Model for Pairs<'a> {
-    ghost use Rattle.std.specs.Prelude.{ℕ, List, map};
-    ghost use Rattle.book.specs.Lists.{as_pair};
-
-    ghost Value = { List (ℕ × ℕ) };
-
-    ghost view = { λ s. map as_pair s.pairs.now };
-}
-
-impl<'a> Pairs<'a> {
-    // The list, to read it and keep it.
-    pub fn iter(&self) -> Pairs<'a>
-        ensures { result ≡ self.now }
-    {
-        Pairs { pairs: self.pairs }
-    }
-
-    // How many pairs are left.
-    pub fn len(&self) -> usize
-        ensures { result ≡ length self.now }
-    {
-        self.pairs.len()
-    }
-
-    // The i-th pair, none past the end.
-    pub fn get(&self, i: usize) -> Option<(u16, u16)>
-        ensures { result ≡ slice_get self.now i }
-    {
-        self.pairs.get(i).map(|[first, second]| (*first, *second))
-    }
-}
-
-impl<'a> Iterator for Pairs<'a> {
-    type Item = (u16, u16);
-
-    ghost next_gives = { YieldsFirst (λ s. s) };
-
-    ghost remaining = { item_count (λ s. s) };
-
-    fn next(&mut self) -> Option<(u16, u16)> {
-        let ([first, second], rest) = self.pairs.split_first()?;
-        self.pairs = rest;
-        Some((*first, *second))
-    }
-}
-
-// An entry's construct with its parts; children are entries, and lists are parts of the book's words.
-#[derive(Drop)]
-pub enum Node<'a> {
+// An entry's construct with its parts; children are entries, and lists are spans of the book's words.
+#[derive(Clone, Copy)]
+pub enum Node {
     Unit {
-        children: Items<'a>,
+        children: Items,
     },
     Empty,
     Compound {
-        statements: Items<'a>,
+        statements: Items,
     },
     // `=` has no operator
     Assignment {
@@ -142,13 +50,13 @@ pub enum Node<'a> {
     },
     // a condition and a body each
     If {
-        clauses: Pairs<'a>,
+        clauses: Pairs,
         otherwise: Option<u16>,
     },
     // a selector, 0 for default, and a body each
     Switch {
         expression: u16,
-        clauses: Pairs<'a>,
+        clauses: Pairs,
     },
     Loop {
         body: u16,
@@ -212,7 +120,7 @@ pub enum Node<'a> {
     },
     Call {
         name: u16,
-        arguments: Items<'a>,
+        arguments: Items,
     },
     // a name and a type for each parameter
     Function {
@@ -221,8 +129,113 @@ pub enum Node<'a> {
         must_use: bool,
         ty: Option<u16>,
         body: u16,
-        parameters: Pairs<'a>,
+        parameters: Pairs,
     },
+}
+
+// The words of a list, which are read in turn. They can't be copied, since contracts see the words and not where they lie;
+// `iter` gives them once more.
+#[derive(Drop)]
+pub struct Listed<'a> {
+    words: &'a [u16],
+}
+
+impl<'a> Model for Listed<'a> {
+    ghost use Rattle.std.specs.Prelude.{ℕ, List};
+
+    ghost Value = { List ℕ };
+
+    ghost view = { λ s. s.words.now };
+}
+
+impl<'a> Listed<'a> {
+    // The same words, to read them and keep these.
+    pub fn iter(&self) -> Listed<'a>
+        ensures { result ≡ self.now }
+    {
+        Listed { words: self.words }
+    }
+
+    // How many words are left.
+    pub fn len(&self) -> usize
+        ensures { result ≡ length self.now }
+    {
+        self.words.len()
+    }
+
+    // The i-th word, none past the end.
+    pub fn get(&self, i: usize) -> Option<u16>
+        ensures { result ≡ slice_get self.now i }
+    {
+        self.words.get(i).copied()
+    }
+}
+
+impl<'a> Iterator for Listed<'a> {
+    type Item = u16;
+
+    ghost next_gives = { YieldsFirst (λ s. s) };
+
+    ghost remaining = { item_count (λ s. s) };
+
+    fn next(&mut self) -> Option<u16> {
+        let (first, rest) = self.words.split_first()?;
+        self.words = rest;
+        Some(*first)
+    }
+}
+
+// The pairs of a list, which are read in turn. They have a type of their own, since a list of `T` would show contracts a pair
+// as a list of two words.
+#[derive(Drop)]
+pub struct Paired<'a> {
+    pairs: &'a [[u16; 2]],
+}
+
+impl<'a> Model for Paired<'a> {
+    ghost use Rattle.std.specs.Prelude.{ℕ, List, map};
+    ghost use Rattle.book.specs.Lists.{as_pair};
+
+    ghost Value = { List (ℕ × ℕ) };
+
+    ghost view = { λ s. map as_pair s.pairs.now };
+}
+
+impl<'a> Paired<'a> {
+    // The same pairs, to read them and keep these.
+    pub fn iter(&self) -> Paired<'a>
+        ensures { result ≡ self.now }
+    {
+        Paired { pairs: self.pairs }
+    }
+
+    // How many pairs are left.
+    pub fn len(&self) -> usize
+        ensures { result ≡ length self.now }
+    {
+        self.pairs.len()
+    }
+
+    // The i-th pair, none past the end.
+    pub fn get(&self, i: usize) -> Option<(u16, u16)>
+        ensures { result ≡ slice_get self.now i }
+    {
+        self.pairs.get(i).map(|[first, second]| (*first, *second))
+    }
+}
+
+impl<'a> Iterator for Paired<'a> {
+    type Item = (u16, u16);
+
+    ghost next_gives = { YieldsFirst (λ s. s) };
+
+    ghost remaining = { item_count (λ s. s) };
+
+    fn next(&mut self) -> Option<(u16, u16)> {
+        let ([first, second], rest) = self.pairs.split_first()?;
+        self.pairs = rest;
+        Some((*first, *second))
+    }
 }
 
 // A child that may be absent.
@@ -241,28 +254,10 @@ fn optional_type(word: u16) -> Option<u16>
 
 // The `n` words that stand from a place on, fewer where the words end.
 fn words_from(ws: &[u16], from: usize, n: usize) -> &[u16]
-    ensures { result.now ≡ items ws.now from n }
+    ensures { result.now ≡ take n (drop from ws.now) }
 {
     let rest = &ws[from.min(ws.len())..];
     &rest[..n.min(rest.len())]
-}
-
-// A list of the `n` words from a place on.
-fn items_from(ws: &[u16], from: usize, n: u16) -> Items
-    ensures { result ≡ items ws.now from n }
-{
-    Items {
-        words: words_from(ws, from, n as usize),
-    }
-}
-
-// A list of the `n` pairs of words from a place on.
-#[tactic(auto, using(crate::proofs::Lists::pairs_of_chunks))]
-fn pairs_from(ws: &[u16], from: usize, n: u16) -> Pairs
-    ensures { result ≡ pairs ws.now from n }
-{
-    let (pairs, _) = words_from(ws, from, 2 * n as usize).as_chunks::<2>();
-    Pairs { pairs }
 }
 
 // The node of a construct whose body stands at `p`.
@@ -272,11 +267,17 @@ fn node_of(construct: Construct, ws: &[u16], p: usize) -> Option<Node>
 {
     match construct {
         Construct::Unit => Some(Node::Unit {
-            children: items_from(ws, p + 2, word(ws, p + 1)),
+            children: Items {
+                start: p + 2,
+                count: word(ws, p + 1),
+            },
         }),
         Construct::Empty => Some(Node::Empty),
         Construct::Compound => Some(Node::Compound {
-            statements: items_from(ws, p + 2, word(ws, p + 1)),
+            statements: Items {
+                start: p + 2,
+                count: word(ws, p + 1),
+            },
         }),
         Construct::Assignment => Some(Node::Assignment {
             operator: match word(ws, p + 1) {
@@ -296,13 +297,19 @@ fn node_of(construct: Construct, ws: &[u16], p: usize) -> Option<Node>
         Construct::If => {
             let count = word(ws, p + 1);
             Some(Node::If {
-                clauses: pairs_from(ws, p + 2, count),
+                clauses: Pairs {
+                    start: p + 2,
+                    count,
+                },
                 otherwise: optional(word(ws, p + 2 + 2 * count as usize)),
             })
         },
         Construct::Switch => Some(Node::Switch {
             expression: word(ws, p + 1),
-            clauses: pairs_from(ws, p + 3, word(ws, p + 2)),
+            clauses: Pairs {
+                start: p + 3,
+                count: word(ws, p + 2),
+            },
         }),
         Construct::Loop => Some(Node::Loop {
             body: word(ws, p + 1),
@@ -374,7 +381,10 @@ fn node_of(construct: Construct, ws: &[u16], p: usize) -> Option<Node>
         }),
         Construct::Call => Some(Node::Call {
             name: word(ws, p + 1),
-            arguments: items_from(ws, p + 3, word(ws, p + 2)),
+            arguments: Items {
+                start: p + 3,
+                count: word(ws, p + 2),
+            },
         }),
         Construct::Function => {
             let flags = word(ws, p + 2);
@@ -384,7 +394,10 @@ fn node_of(construct: Construct, ws: &[u16], p: usize) -> Option<Node>
                 must_use: flags >= 2,
                 ty: optional_type(word(ws, p + 3)),
                 body: word(ws, p + 4),
-                parameters: pairs_from(ws, p + 6, word(ws, p + 5)),
+                parameters: Pairs {
+                    start: p + 6,
+                    count: word(ws, p + 5),
+                },
             })
         },
     }
@@ -406,11 +419,44 @@ fn node_in(words: &[u16], entry: u16) -> Option<Node>
 impl<'a> Book<'a> {
     // What an entry says; none exactly if the book has no such entry.
     #[tactic(auto, using(crate::proofs::Family::known_every, crate::proofs::Family::known_children))]
-    pub fn node(&self, entry: u16) -> Option<Node<'a>>
+    pub fn node(&self, entry: u16) -> Option<Node>
         ensures value { result ≡ node_at self.now.words.now entry }
         ensures every { is_some result ≡ nat_lt entry (entries self.now.words.now) }
         ensures children { IfSome result (Children self.now.words.now entry) }
     {
         node_in(self.words, entry)
+    }
+
+    // The words of a list, fewer where the book ends.
+    pub fn listed(&self, items: Items) -> Listed<'a>
+        ensures { result ≡ listed self.now.words.now items }
+    {
+        Listed {
+            words: words_from(self.words, items.start, items.count as usize),
+        }
+    }
+
+    // The pairs of a list, fewer where the book ends.
+    #[tactic(auto, using(crate::proofs::Lists::pairs_of_chunks))]
+    pub fn paired(&self, pairs: Pairs) -> Paired<'a>
+        ensures { result ≡ paired self.now.words.now pairs }
+    {
+        let words = words_from(self.words, pairs.start, 2 * pairs.count as usize);
+        let (pairs, _) = words.as_chunks::<2>();
+        Paired { pairs }
+    }
+
+    // The i-th word of a list, none past its end.
+    pub fn item(&self, items: Items, i: u16) -> Option<u16>
+        ensures { result ≡ slice_get (listed self.now.words.now items) i }
+    {
+        self.listed(items).get(i as usize)
+    }
+
+    // The i-th pair of a list, none past its end.
+    pub fn pair(&self, pairs: Pairs, i: u16) -> Option<(u16, u16)>
+        ensures { result ≡ slice_get (paired self.now.words.now pairs) i }
+    {
+        self.paired(pairs).get(i as usize)
     }
 }

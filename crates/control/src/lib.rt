@@ -6,15 +6,15 @@ ghost use Rattle.control.specs.Control.{control, control_of, exits, is_statement
 use book::book::Book;
 use book::node::{Items, Node, Pairs};
 
-#[derive(Drop)]
-pub enum Control<'a> {
+#[derive(Clone, Copy)]
+pub enum Control {
     // no statement; a case like the others, since it has a set: the empty one
     Other,
     // a statement that only goes on
     Plain,
-    Sequence(Items<'a>),
-    If(Pairs<'a>, Option<u16>),
-    Switch(Pairs<'a>),
+    Sequence(Items),
+    If(Pairs, Option<u16>),
+    Switch(Pairs),
     // a body, and the continuing
     Loop(u16, Option<u16>),
     // a body under a condition: `while`, and `for` with one
@@ -33,7 +33,7 @@ pub enum Control<'a> {
 
 // That of a node.
 fn control_of(node: Node) -> Control
-    ensures { result ≡ control_of (Some node.entry) }
+    ensures { result ≡ control_of (Some node) }
 {
     match node {
         Node::Compound { statements } => Control::Sequence(statements),
@@ -70,23 +70,23 @@ fn control_of(node: Node) -> Control
 
 // That of an entry.
 #[tactic(auto, unfolding(crate::specs::Control::control))]
-pub fn control_at<'a>(book: &Book<'a>, entry: u16) -> Control<'a>
+pub fn control_at(book: &Book, entry: u16) -> Control
     ensures { result ≡ control book.now.words.now entry }
 {
     book.node(entry).map_or(Control::Other, control_of)
 }
 
-impl Control<'_> {
+impl Control {
     // Whether it is a continuing with a break-if.
-    pub fn exits(&self) -> bool
-        ensures { result ≡ exits self.now }
+    pub fn exits(self) -> bool
+        ensures { result ≡ exits self }
     {
         matches!(self, Control::Continuing(_, true))
     }
 
     // Whether it is that of a statement.
-    pub fn is_statement(&self) -> bool
-        ensures { result ≡ is_statement self.now }
+    pub fn is_statement(self) -> bool
+        ensures { result ≡ is_statement self }
     {
         !matches!(
             self,

@@ -3,6 +3,7 @@ use Rattle.std.proofs.Common.{◌≡◌, ℕ, zero, suc, List, [], ◌∷◌, �
 use Rattle.std.specs.Option.{option_to_list}
 use Rattle.std.specs.List.{slice_get}
 use Rattle.book.specs.Children.{Children, IsChild, MayBeChild}
+use Rattle.book.specs.Nodes.{paired}
 use Rattle.book.specs.declared.node.Node.{Node}
 use Rattle.book.specs.declared.node.Node.TheVariants as N
 use Rattle.shape.specs.declared.Child.{Child}
@@ -78,12 +79,12 @@ module _ (ws : List ℕ) (e : ℕ) where
   loop_follows b None h m (suc i) c k = none_follows i c k
   loop_follows b (Some d) h m (suc i) c k = one_follows d m i c k
 
-  pub child_follows : (t : Control) → Follows ws e t → (i c : ℕ) → slice_get (children_of t) i ≡ Some c → After ws e c
+  pub child_follows : (t : Control) → Follows ws e t → (i c : ℕ) → slice_get (children_of ws t) i ≡ Some c → After ws e c
   child_follows Other h i c k = none_follows i c k
   child_follows Plain h i c k = none_follows i c k
   child_follows (Sequence s) h i c k = h i c k
-  child_follows (If s o) h i c k = if_follows o s h.0 h.1 i c k
-  child_follows (Switch s) h i c k = seconds-follow s h i c k
+  child_follows (If s o) h i c k = if_follows o (paired ws s) h.0 h.1 i c k
+  child_follows (Switch s) h i c k = seconds-follow (paired ws s) h i c k
   child_follows (Loop b o) h i c k = loop_follows b o h.0 h.1 i c k
   child_follows (While b) h i c k = one_follows b h i c k
   child_follows (Forever b) h i c k = one_follows b h i c k

@@ -2,7 +2,7 @@
 use Rattle.std.proofs.Common.{◌≡◌, ℕ, suc, ◌<◌, Bool, true, cond, not, List, [], ◌∷◌, Some, None, Option, sym, refl, ap, ◌∙◌, subst}
 use Rattle.std.specs.List.{slice_get}
 use Rattle.layout.specs.Layout.{entries}
-use Rattle.book.specs.Nodes.{node_at}
+use Rattle.book.specs.Nodes.{listed, node_at, paired}
 use Rattle.layout.specs.WellFormed.{WellFormed}
 use Rattle.layout.specs.Verdict.{accepted}
 use Rattle.layout.proofs.Accepted.{loaded}
@@ -41,13 +41,13 @@ module _ (ws : List ℕ) where
   same-behavior : (f g : ℕ → Behavior) (e : ℕ) (t : Control) → Follows ws e t → ((c : ℕ) → e < c → c < entries ws → f c ≡ g c) → control_behavior ws f t ≡ control_behavior ws g t
   same-behavior f g e Other k h = refl
   same-behavior f g e Plain k h = refl
-  same-behavior f g e (Sequence s) k h = same_turn f g only_next s (λ i c n. h c (k i c n).0 (k i c n).1)
+  same-behavior f g e (Sequence s) k h = same_turn f g only_next (listed ws s) (λ i c n. h c (k i c n).0 (k i c n).1)
   same-behavior f g e (If s o) k h =
-      ap (λ x. joined f x s) (same_else f g e o k.1 h)
-      ∙ same-joined f g (else_of g o) s (λ i p n. h p.1 (k.0 i p n).0 (k.0 i p n).1)
+      ap (λ x. joined f x (paired ws s)) (same_else f g e o k.1 h)
+      ∙ same-joined f g (else_of g o) (paired ws s) (λ i p n. h p.1 (k.0 i p n).0 (k.0 i p n).1)
   same-behavior f g e (Switch s) k h =
-      ap (λ x. plus_next (turned x) (not (has_default s)))
-      (same-joined f g none s (λ i p n. h p.1 (k i p n).0 (k i p n).1))
+      ap (λ x. plus_next (turned x) (not (has_default (paired ws s))))
+      (same-joined f g none (paired ws s) (λ i p n. h p.1 (k i p n).0 (k i p n).1))
   same-behavior f g e (Loop b c) k h = ap (λ x. looped x (exits_by ws c)) (h b k.0.0 k.0.1)
   same-behavior f g e (While b) k h = ap tested (h b k.0 k.1)
   same-behavior f g e (Forever b) k h = ap forever (h b k.0 k.1)
@@ -72,7 +72,7 @@ module _ (ws : List ℕ) where
     least_local : (p : ℕ → Bool) → Local (entries ws) (least_of ws p)
     least_local p f g e h k =
         ap (λ x. cond (p e) (Some e) x)
-        (same-earliest f g None (children_of (control ws e))
+        (same-earliest f g None (children_of ws (control ws e))
         (λ i c n. let a = child_follows ws e (control ws e) (control_follows e) i c n in k c a.0 a.1))
 
     pub opened-least : (p : ℕ → Bool) (e : ℕ) → e < entries ws → least ws p e ≡ least_of ws p (least ws p) e

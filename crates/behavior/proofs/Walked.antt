@@ -1,11 +1,13 @@
 -- A list's first, and the table of what is known.
-use Rattle.std.proofs.Common.{◌≡◌, ℕ, zero, suc, ◌-◌, ◌≤◌, true, ◌⊎◌, List, [], ◌∷◌, get_or, set, replicate, Some, None, Option, sym, refl, ap, ◌∙◌, inl, inr, ⊎_elim, arith}
+use Rattle.std.proofs.Common.{◌≡◌, ℕ, zero, suc, ◌-◌, ◌≤◌, true, cond, ◌⊎◌, List, [], ◌∷◌, get_or, set, replicate, Some, None, Option, sym, refl, ap, ◌∙◌, inl, inr, ⊎_elim, arith}
 use Rattle.std.specs.List.{slice_get}
 use Rattle.layout.specs.Layout.{entries}
 use Rattle.layout.specs.Verdict.{accepted}
 use Rattle.layout.proofs.Accepted.{loaded}
+use Rattle.book.proofs.Reading.{node_past}
+use Rattle.control.specs.Control.{control, control_of, is_statement}
 use Rattle.behavior.specs.Below.{least}
-use Rattle.behavior.specs.Rules.{behavior, descend, none}
+use Rattle.behavior.specs.Rules.{behavior, behavior_at, descend, none}
 use Rattle.behavior.specs.Summaries.{Filled, bare_set, summary}
 use Rattle.behavior.specs.declared.summary.Summary.{Summary}
 
@@ -39,6 +41,11 @@ blank ws n k s h = let z : ◌≡◌ {A = ℕ} 0 1 = (let e = empty n k in cc) i
 pub past_summary : (ws : List ℕ) (e : ℕ) → entries ws ≤ e → bare_set none ≡ summary ws e
 unfolding summary behavior least descend
 past_summary ws e h = let z : entries ws - e ≡ 0 = omega arith in cc
+
+-- nor is there a statement
+pub none_past : (ws : List ℕ) (e : ℕ) → entries ws ≤ e → None ≡ behavior_at ws e
+unfolding control
+none_past ws e h = sym (ap (λ o. cond (is_statement (control_of o)) (Some (behavior ws e)) None) (node_past ws e h))
 
 pub few_entries : (ws : List ℕ) → accepted ws ≡ true → entries ws ≤ 4096
 few_entries ws ok = (loaded ws ok).few

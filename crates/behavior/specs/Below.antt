@@ -3,6 +3,7 @@ use Rattle.std.specs.Prelude.{◌≡◌, ℕ, ◌-◌, min, Bool, true, false, c
 use Rattle.std.specs.Option.{option_to_list}
 use Rattle.std.specs.List.{slice_get}
 use Rattle.layout.specs.Layout.{entries}
+use Rattle.book.specs.Nodes.{listed, paired}
 use Rattle.control.specs.Control.{control}
 use Rattle.behavior.specs.Rules.{behavior, beyond_next, descend}
 use Rattle.control.specs.declared.Control.{Control}
@@ -13,23 +14,23 @@ seconds [] = []
 seconds (p ∷ ps) = p.1 ∷ seconds ps
 
 -- The statements, bodies and continuings right below
-abbrev pub children_of : Control → List ℕ
-children_of Other = []
-children_of Plain = []
-children_of (Sequence s) = s
-children_of (If s o) = option_to_list o ++ seconds s
-children_of (Switch s) = seconds s
-children_of (Loop b c) = b ∷ option_to_list c
-children_of (While b) = b ∷ []
-children_of (Forever b) = b ∷ []
-children_of Break = []
-children_of Continue = []
-children_of (Return v) = []
-children_of (Continuing b x) = b ∷ []
-children_of (Function n t b) = b ∷ []
+abbrev pub children_of : List ℕ → Control → List ℕ
+children_of ws Other = []
+children_of ws Plain = []
+children_of ws (Sequence s) = listed ws s
+children_of ws (If s o) = option_to_list o ++ seconds (paired ws s)
+children_of ws (Switch s) = seconds (paired ws s)
+children_of ws (Loop b c) = b ∷ option_to_list c
+children_of ws (While b) = b ∷ []
+children_of ws (Forever b) = b ∷ []
+children_of ws Break = []
+children_of ws Continue = []
+children_of ws (Return v) = []
+children_of ws (Continuing b x) = b ∷ []
+children_of ws (Function n t b) = b ∷ []
 
 abbrev pub IsBelow : List ℕ → ℕ → ℕ → Type 0
-IsBelow ws e c = (i : ℕ) × (slice_get (children_of (control ws e)) i ≡ Some c)
+IsBelow ws e c = (i : ℕ) × (slice_get (children_of ws (control ws e)) i ≡ Some c)
 
 -- An entry is below another if it is that entry, or below a child of it
 pub data Below (ws : List ℕ) : ℕ → ℕ → Type 0 where
@@ -47,7 +48,7 @@ earliest f so_far (c ∷ cs) = earliest f (earlier so_far (f c)) cs
 
 -- The least entry below e that passes the test, if any
 abbrev pub least_of : List ℕ → (ℕ → Bool) → (ℕ → Option ℕ) → ℕ → Option ℕ
-least_of ws p f e = cond (p e) (Some e) (earliest f None (children_of (control ws e)))
+least_of ws p f e = cond (p e) (Some e) (earliest f None (children_of ws (control ws e)))
 
 unfoldable pub least : List ℕ → (ℕ → Bool) → ℕ → Option ℕ
 least ws p e = descend None (least_of ws p) (entries ws - e) e

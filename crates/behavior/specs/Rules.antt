@@ -2,6 +2,7 @@
 use Rattle.std.specs.Prelude.{ℕ, zero, suc, ◌-◌, Bool, true, false, cond, not, ◌||◌, List, [], ◌∷◌, Some, None, Option, ◌==◌}
 use Rattle.std.specs.List.{list_any}
 use Rattle.layout.specs.Layout.{entries}
+use Rattle.book.specs.Nodes.{listed, paired}
 use Rattle.control.specs.Control.{control, exits, is_statement}
 use Rattle.control.specs.declared.Control.{Control}
 use Rattle.control.specs.declared.Control.TheVariants.{Break, Continue, Continuing, Forever, Function, If, Loop, Other, Plain, Return, Sequence, Switch, While}
@@ -76,9 +77,9 @@ exits_by ws (Some c) = exits (control ws c)
 abbrev pub control_behavior : List ℕ → (ℕ → Behavior) → Control → Behavior
 control_behavior ws f Other = none
 control_behavior ws f Plain = only_next
-control_behavior ws f (Sequence s) = in_turn f only_next s
-control_behavior ws f (If s o) = joined f (else_of f o) s
-control_behavior ws f (Switch s) = plus_next (turned (joined f none s)) (not (has_default s))
+control_behavior ws f (Sequence s) = in_turn f only_next (listed ws s)
+control_behavior ws f (If s o) = joined f (else_of f o) (paired ws s)
+control_behavior ws f (Switch s) = plus_next (turned (joined f none (paired ws s))) (not (has_default (paired ws s)))
 control_behavior ws f (Loop b c) = looped (f b) (exits_by ws c)
 control_behavior ws f (While b) = tested (f b)
 control_behavior ws f (Forever b) = forever (f b)

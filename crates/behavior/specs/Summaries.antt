@@ -2,6 +2,7 @@
 use Rattle.std.specs.Prelude.{◌≡◌, ℕ, ◌<◌, Bool, true, false, cond, List, [], ◌∷◌, Some, None, Option, slice_index_or}
 use Rattle.std.specs.List.{slice_get}
 use Rattle.layout.specs.Layout.{entries}
+use Rattle.book.specs.Nodes.{listed, paired}
 use Rattle.behavior.specs.Below.{children_of, earlier, earliest, is_bare, is_leaving, is_valued, least, leaving, returning}
 use Rattle.behavior.specs.Rules.{behavior, beyond_next, control_behavior, followed, set, union}
 use Rattle.control.specs.declared.Control.{Control}
@@ -23,9 +24,9 @@ abbrev pub control_summary : List ℕ → ℕ → Control → Summary
 control_summary ws e t =
     record {
       behavior = control_behavior ws (behavior ws) t;
-      bare = cond (returning false t) (Some e) (earliest (least ws (is_bare ws)) None (children_of t));
-      valued = cond (returning true t) (Some e) (earliest (least ws (is_valued ws)) None (children_of t));
-      leaving = cond (leaving ws t) (Some e) (earliest (least ws (is_leaving ws)) None (children_of t));
+      bare = cond (returning false t) (Some e) (earliest (least ws (is_bare ws)) None (children_of ws t));
+      valued = cond (returning true t) (Some e) (earliest (least ws (is_valued ws)) None (children_of ws t));
+      leaving = cond (leaving ws t) (Some e) (earliest (least ws (is_leaving ws)) None (children_of ws t));
     }
 
 -- Of a set with nothing below
@@ -91,9 +92,9 @@ BodiesFollow ws e ps = (i : ℕ) (p : ℕ × ℕ) → slice_get ps i ≡ Some p 
 abbrev pub Follows : List ℕ → ℕ → Control → Type 0
 Follows ws e Other = Unit {0}
 Follows ws e Plain = Unit {0}
-Follows ws e (Sequence s) = (i c : ℕ) → slice_get s i ≡ Some c → After ws e c
-Follows ws e (If s o) = BodiesFollow ws e s × MayFollow ws e o
-Follows ws e (Switch s) = BodiesFollow ws e s
+Follows ws e (Sequence s) = (i c : ℕ) → slice_get (listed ws s) i ≡ Some c → After ws e c
+Follows ws e (If s o) = BodiesFollow ws e (paired ws s) × MayFollow ws e o
+Follows ws e (Switch s) = BodiesFollow ws e (paired ws s)
 Follows ws e (Loop b c) = After ws e b × MayFollow ws e c
 Follows ws e (While b) = After ws e b
 Follows ws e (Forever b) = After ws e b

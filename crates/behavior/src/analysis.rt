@@ -10,9 +10,14 @@ use book::book::Book;
 use std::alloc::{AllocError, Global};
 
 // The behavior set of a statement; none of an entry that is no statement.
+#[tactic(auto, using(crate::proofs::Walked::none_past))]
 pub fn behavior_of(book: &Book, entry: u16) -> Option<Behavior>
     ensures { result ≡ behavior_at book.now.words.now entry }
 {
+    // before the table is made
+    if entry >= book.entries() {
+        return None;
+    }
     Summaries::new(*book).set_of(entry)
 }
 

@@ -1,6 +1,7 @@
 // The summary of each entry, by functions that call each other over a table of what is known.
 ghost use Rattle.std.specs.Prelude.{◌≡◌, ◌<◌, false, not};
 ghost use Rattle.layout.specs.Layout.{entries};
+ghost use Rattle.book.specs.Nodes.{listed, paired};
 ghost use Rattle.behavior.specs.Below.{earlier};
 ghost use Rattle.behavior.specs.Rules.{behavior_at, has_default, looped, none, only_next, plus_next, tested, turned};
 ghost use Rattle.behavior.specs.Summaries.{Follows, bare_set, clauses_from, continuing_summary, control_summary, list_from, return_summary, summary, with_set};
@@ -9,7 +10,7 @@ ghost use Rattle.control.specs.declared.Control.TheVariants.{Sequence, Switch};
 
 use crate::set::{BREAK, Behavior, CONTINUE, NEXT, NONE, RETURN};
 use book::book::Book;
-use book::node::{Items, Pairs};
+use book::node::{Items, Paired, Pairs};
 use control::{Control, control_at};
 use std::marker::Model;
 
@@ -119,7 +120,7 @@ impl Summary {
 }
 
 // Whether a clause has no selector.
-fn has_default(mut clauses: Pairs) -> bool
+fn has_default(mut clauses: Paired) -> bool
     ensures { result ≡ has_default clauses.entry }
 {
     clauses.any(|(selector, _)| selector == 0)
@@ -157,7 +158,7 @@ impl<'a> Summaries<'a> {
 
     // The control of an entry: its children stand after it, and their summaries make that of the entry.
     #[tactic(auto, using(crate::proofs::Openings::follow_at, crate::proofs::Summed::summed_at))]
-    pub fn control(&self, entry: u16) -> Control<'a>
+    pub fn control(&self, entry: u16) -> Control
         ensures value { result ≡ control self.now entry }
         ensures follow { Follows self.now entry result }
         ensures summed { entry < entries self.now → summary self.now entry ≡ control_summary self.now entry result }
@@ -207,7 +208,7 @@ impl<'a> Summaries<'a> {
                 self.of_clauses(entry, clauses, start)
             }
             Control::Switch(clauses) => {
-                let default = has_default(clauses.iter());
+                let default = has_default(self.book.paired(clauses));
                 self.of_clauses(entry, clauses, Summary::of(NONE))
                     .switched(default)
             }
@@ -230,11 +231,11 @@ impl<'a> Summaries<'a> {
     fn of_list(&mut self, entry: u16, items: Items) -> Summary
         requires within { entry < entries self.old }
         requires follow { Follows self.old entry (Sequence items) }
-        ensures value { result ≡ list_from self.old (bare_set only_next) items.entry }
+        ensures value { result ≡ list_from self.old (bare_set only_next) (listed self.old items) }
         ensures same { self.new ≡ self.old }
     {
         let mut so_far = Summary::of(NEXT);
-        for child in items {
+        for child in self.book.listed(items) {
             let next = self.of(child);
             so_far = so_far.with(next, so_far.behavior.followed(next.behavior));
         }
@@ -247,11 +248,11 @@ impl<'a> Summaries<'a> {
     fn of_clauses(&mut self, entry: u16, clauses: Pairs, start: Summary) -> Summary
         requires within { entry < entries self.old }
         requires follow { Follows self.old entry (Switch clauses) }
-        ensures value { result ≡ clauses_from self.old start clauses.entry }
+        ensures value { result ≡ clauses_from self.old start (paired self.old clauses) }
         ensures same { self.new ≡ self.old }
     {
         let mut so_far = start;
-        for (_, body) in clauses {
+        for (_, body) in self.book.paired(clauses) {
             let next = self.of(body);
             so_far = so_far.with(next, so_far.behavior.union(next.behavior));
         }

@@ -51,13 +51,13 @@ module _ (ws : List ℕ) (w : WellFormed ws) where
   least-none p e k h n itself = (cond_is_none (p e) e _ (sym (opened-least ws w p e h) ∙ n)).0
   least-none p e k h n (through {c = c} i b) =
       let o = (cond_is_none (p e) e _ (sym (opened-least ws w p e h) ∙ n)).1 in
-      least-none p c k (child_after e c i).1 ((earliest-none (least ws p) (children_of (control ws e)) None o).1 i.0 c i.1) b
+      least-none p c k (child_after e c i).1 ((earliest-none (least ws p) (children_of ws (control ws e)) None o).1 i.0 c i.1) b
 
   free_depth : (p : ℕ → Bool) (n e : ℕ) → entries ws - e ≤ n → e < entries ws → ((k : ℕ) → Below ws e k → p k ≡ false) → least ws p e ≡ None
   free_depth p zero e d h f = absurd (omega arith)
   free_depth p (suc n) e d h f =
       opened-least ws w p e h ∙ cond-false (p e) _ _ (f e itself)
-      ∙ none-earliest (least ws p) (children_of (control ws e))
+      ∙ none-earliest (least ws p) (children_of ws (control ws e))
       (λ i c m. let a = child_after e c (i, m) in free_depth p n c (omega (arith, a.0, a.1)) a.1 (λ k b. f k (through (i, m) b)))
 
   free_least : (p : ℕ → Bool) (e : ℕ) → e < entries ws → ((k : ℕ) → Below ws e k → p k ≡ false) → least ws p e ≡ None
@@ -121,7 +121,7 @@ module _ (ws : List ℕ) (w : WellFormed ws) where
       ∙ ap (option_map (unfit e LeavingContinuing)) (free_least (is_leaving ws) b h (λ k l. unleaving f k (below_within b k h l) (control ws k) refl))
 
   after_function : (e n : ℕ) (t : Bool) (b : ℕ) → control ws e ≡ Function n t b → b < entries ws
-  after_function e n t b is = (child_after e b (0, ap (λ c. slice_get (children_of c) 0) is)).1
+  after_function e n t b is = (child_after e b (0, ap (λ c. slice_get (children_of ws c) 0) is)).1
 
   fault_free : Fit ws → (e : ℕ) → e < entries ws → (t : Control) → control ws e ≡ t → fault_of ws e t ≡ None
   unfolding summary

@@ -126,9 +126,9 @@ module _ (ws : List ℕ) where
     settles lt f h = ap (λ b. has b f) (opened-behavior ws w e lt ∙ ap (control_behavior ws (behavior ws)) is) ∙ h
 
     -- a return below a child is below its parent
-    pub rises : (i c : ℕ) → slice_get (children_of t) i ≡ Some c → (f : Flow V) → Returns c f → Returns e f
+    pub rises : (i c : ℕ) → slice_get (children_of ws t) i ≡ Some c → (f : Flow V) → Returns c f → Returns e f
     rises i c at F.Next r = tt
     rises i c at F.Break r = tt
     rises i c at F.Continue r = tt
     rises i c at (F.Return v) r =
-        (r.0, through (i, subst (λ (x : Control). slice_get (children_of x) i ≡ Some c) (sym is) at) r.1, r.2)
+        (r.0, through (i, subst (λ (x : Control). slice_get (children_of ws x) i ≡ Some c) (sym is) at) r.1, r.2)

@@ -131,7 +131,7 @@ module _ {V : Type 0} (env : Env V) where
   answer_fine r s = answered_keeps (λ o. Unit {0}) ⊥ r s (evaluated env) (λ v. tt)
 
   module _ (w : WellFormed env.words) (e : ℕ) where
-    pub expression_keeps : (n : Option Node) → takes Kind.Expression (node_tag n) ≡ true → IfSome n (Children env.words e) → (s : Store V) → Fine (as_expression env (entry_of n) s)
+    pub expression_keeps : (n : Option Node) → takes Kind.Expression (node_tag n) ≡ true → IfSome n (Children env.words e) → (s : Store V) → Fine (as_expression env (entry_of env.words n) s)
     expression_keeps (Some (N.Literal kind words)) k h s = answer_fine (env.operators.literal kind words) s
     expression_keeps (Some (N.Parenthesized c)) k h s = ((h.1, h.2), (λ r t a. a), λ o s' z. tt)
     expression_keeps (Some (N.Unary op c)) k h s = ((h.1, h.2), (λ r t a. a), λ o s' z. answer_fine _ s')
@@ -168,7 +168,7 @@ module _ {V : Type 0} (env : Env V) where
     expression_keeps (Some (N.Continuing b c)) k h s = absurd (false≢true k)
     expression_keeps (Some (N.Function name a m ty b ps)) k h s = absurd (false≢true k)
 
-    pub callee_keeps : {n : Option Node} → Told n → takes Kind.Call (node_tag n) ≡ true → IfSome n (Children env.words e) → (s : Store V) → Fine (as_callee env (entry_of n) s)
+    pub callee_keeps : {n : Option Node} → Told n → takes Kind.Call (node_tag n) ≡ true → IfSome n (Children env.words e) → (s : Store V) → Fine (as_callee env (entry_of env.words n) s)
     callee_keeps (a_call {n = name}) k h s =
         arguments_keeps (λ o. Unit {0}) ⊥ _ (λ i c at. ((h i c at).1, (h i c at).2)) [] s _
         (λ vs t. call_keeps (λ o. Unit {0}) ⊥ end (λ o u. tt) w name vs t)

@@ -19,7 +19,7 @@ module _ (ws : List ℕ) where
   abbrev pub Written : Function → Type 0
   Written f = Takes ws Kind.Body f.body × (Fit ws → FitFunction ws (is_some f.ty) f.body)
 
-  node_written : (e : ℕ) (n : Option Node) → control ws e ≡ control_of n → IfSome n (Children ws e) → IfSome (function_of (entry_of n)) Written
+  node_written : (e : ℕ) (n : Option Node) → control ws e ≡ control_of n → IfSome n (Children ws e) → IfSome (function_of (entry_of ws n)) Written
   node_written e None is h = tt
   node_written e (Some (N.Unit s)) is h = tt
   node_written e (Some N.Empty) is h = tt

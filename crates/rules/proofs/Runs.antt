@@ -69,7 +69,7 @@ module _ {V : Type 0} (env : Env V) (w : WellFormed env.words) where
   unfolding entry_at
   within e h =
       ⊎_elim (λ lt. lt)
-      (λ le. absurd (false≢true (sym (ap (λ n. is_statement (entry_of n)) (node_past env.words e le)) ∙ h)))
+      (λ le. absurd (false≢true (sym (ap (λ n. is_statement (entry_of env.words n)) (node_past env.words e le)) ∙ h)))
       (cases_lt e (entries env.words))
 
   fitting : (e : ℕ) → is_statement (entry_at env.words e) ≡ true → Takes env.words Kind.Statement e

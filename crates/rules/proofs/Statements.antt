@@ -8,10 +8,12 @@ use Rattle.shape.specs.declared.Child.{Child}
 use Rattle.shape.specs.declared.Child.TheVariants as Kind
 use Rattle.book.specs.Children.{AreChildren, Children, MayBeChild}
 use Rattle.layout.specs.Layout.{entries, place}
-use Rattle.book.specs.Nodes.{node_at}
+use Rattle.book.specs.Nodes.{listed, node_at, paired}
 use Rattle.layout.specs.WellFormed.{WellFormed}
+use Rattle.book.specs.declared.node.Items.{Items}
 use Rattle.book.specs.declared.node.Node.{Node}
 use Rattle.book.specs.declared.node.Node.TheVariants as N
+use Rattle.book.specs.declared.node.Pairs.{Pairs}
 use Rattle.behavior.specs.Below.{children_of, itself, returning, seconds}
 use Rattle.control.specs.Control.{control, control_of}
 use Rattle.fitness.specs.Fit.{Fit}
@@ -55,7 +57,7 @@ module _ (ws : List ℕ) (e : ℕ) where
   updating (Some c) h = (h.1, update_taken (get_or ws (place ws c) 0) h.2)
 
 -- a call entry has a name to call
-called : (ws : List ℕ) {n : Option Node} → Told n → takes Kind.Call (node_tag n) ≡ true → is_some (called_by (entry_of n)) ≡ true
+called : (ws : List ℕ) {n : Option Node} → Told n → takes Kind.Call (node_tag n) ≡ true → is_some (called_by (entry_of ws n)) ≡ true
 called ws a_call h = refl
 called ws a_block h = absurd (false≢true h)
 called ws a_continuing h = absurd (false≢true h)
@@ -72,14 +74,14 @@ clause_at None cs i c at = (i, at)
 clause_at (Some b) cs i c at = (suc i, at)
 
 -- the set of a switch's bodies, and whether it has no default
-abbrev bodies_of : List ℕ → List (ℕ × ℕ) → Behavior
-bodies_of ws sp = joined (behavior ws) none sp
+abbrev bodies_of : List ℕ → Pairs → Behavior
+bodies_of ws sp = joined (behavior ws) none (paired ws sp)
 
-abbrev defaultless : List (ℕ × ℕ) → Bool
-defaultless sp = not (has_default sp)
+abbrev defaultless : List ℕ → Pairs → Bool
+defaultless ws sp = not (has_default (paired ws sp))
 
-bodies_have : (V : Type 0) (ws : List ℕ) (sp : List (ℕ × ℕ)) (i : ℕ) (p : ℕ × ℕ) → slice_get sp i ≡ Some p → (f : Flow V) → has (behavior ws p.1) f ≡ true → has (bodies_of ws sp) f ≡ true
-bodies_have V ws sp i p at f h = joined_at (behavior ws) none sp i p at f h
+bodies_have : (V : Type 0) (ws : List ℕ) (sp : Pairs) (i : ℕ) (p : ℕ × ℕ) → slice_get (paired ws sp) i ≡ Some p → (f : Flow V) → has (behavior ws p.1) f ≡ true → has (bodies_of ws sp) f ≡ true
+bodies_have V ws sp i p at f h = joined_at (behavior ws) none (paired ws sp) i p at f h
 
 -- ## Statements
 
@@ -87,13 +89,13 @@ module _ {V : Type 0} (env : Env V) (w : WellFormed env.words) (e : ℕ) (lt : e
   plain : control env.words e ≡ T.Plain → Lands env.words {V = V} e F.Next
   plain is = (settles env.words {V = V} w e T.Plain is lt F.Next refl, tt)
 
-  compound_keeps : (G : Type 0) (sp : List ℕ) → control env.words e ≡ T.Sequence sp → AreChildren env.words e Kind.Statement sp → (scope : CompoundScope) (s : Store V) → Keep env (Lands env.words e) G (compound scope sp s)
+  compound_keeps : (G : Type 0) (sp : Items) → control env.words e ≡ T.Sequence sp → AreChildren env.words e Kind.Statement sp → (scope : CompoundScope) (s : Store V) → Keep env (Lands env.words e) G (compound scope (listed env.words sp) s)
   compound_keeps G sp is h scope s =
-      turn_keeps env (Lands env.words e) G e scope only_next refl sp
+      turn_keeps env (Lands env.words e) G e scope only_next refl (listed env.words sp)
       (λ i c at. (((h i c at).1, (h i c at).2), rises env.words w e (T.Sequence sp) is i c at))
       (λ f k r. (settles env.words w e (T.Sequence sp) is lt f k, r)) _
 
-  pub block_keeps : {n : Option Node} → Told n → control env.words e ≡ control_of n → takes Kind.Body (node_tag n) ≡ true → IfSome n (Children env.words e) → (scope : CompoundScope) (s : Store V) → Keep env (Lands env.words e) ⊥ (as_block env scope (block_of env (entry_of n)) s)
+  pub block_keeps : {n : Option Node} → Told n → control env.words e ≡ control_of n → takes Kind.Body (node_tag n) ≡ true → IfSome n (Children env.words e) → (scope : CompoundScope) (s : Store V) → Keep env (Lands env.words e) ⊥ (as_block env scope (block_of env (entry_of env.words n)) s)
   block_keeps (a_block {s = sp}) is k h scope s = compound_keeps ⊥ sp is h scope s
   block_keeps a_call is k h scope s = absurd (false≢true k)
   block_keeps a_continuing is k h scope s = absurd (false≢true k)
@@ -109,7 +111,7 @@ module _ {V : Type 0} (env : Env V) (w : WellFormed env.words) (e : ℕ) (lt : e
   break_keeps b (Some c) h s =
       (h, (λ r t a. a), λ o s' z. branch_keeps env (Quits (T.Continuing b true)) ⊥ (env.values.truth (S.loaded o)) s' (λ t. end F.Break (closing t)) (λ t. end F.Next (closing t)) refl tt)
 
-  pub continuing_keeps : {n : Option Node} → Told n → control env.words e ≡ control_of n → takes Kind.Continuing (node_tag n) ≡ true → IfSome n (Children env.words e) → (s : Store V) → Keep env (Quits (control_of n)) ⊥ (as_continuing env (entry_of n) s)
+  pub continuing_keeps : {n : Option Node} → Told n → control env.words e ≡ control_of n → takes Kind.Continuing (node_tag n) ≡ true → IfSome n (Children env.words e) → (s : Store V) → Keep env (Quits (control_of n)) ⊥ (as_continuing env (entry_of env.words n) s)
   continuing_keeps (a_continuing {b = b} {c = c}) is k h s =
       let set = behavior env.words b in (
         (h.0.1, h.0.2),
@@ -126,43 +128,43 @@ module _ {V : Type 0} (env : Env V) (w : WellFormed env.words) (e : ℕ) (lt : e
   continuing_keeps (another b c d) is k h s = absurd (both_ways _ d k)
 
   -- an if ends as its else or the body of one of its clauses
-  module _ (sp : List (ℕ × ℕ)) (o : Option ℕ) (is : control env.words e ≡ T.If sp o) where
-    if_lands : (i c : ℕ) → slice_get (children_of (T.If sp o)) i ≡ Some c → (f : Flow V) → has (control_behavior env.words (behavior env.words) (T.If sp o)) f ≡ true → Returns env.words c f → Lands env.words e f
+  module _ (sp : Pairs) (o : Option ℕ) (is : control env.words e ≡ T.If sp o) where
+    if_lands : (i c : ℕ) → slice_get (children_of env.words (T.If sp o)) i ≡ Some c → (f : Flow V) → has (control_behavior env.words (behavior env.words) (T.If sp o)) f ≡ true → Returns env.words c f → Lands env.words e f
     if_lands i c at f h r = (settles env.words w e (T.If sp o) is lt f h, rises env.words w e (T.If sp o) is i c at f r)
 
-    clause_lands : (i : ℕ) (p : ℕ × ℕ) → slice_get sp i ≡ Some p → (f : Flow V) → Lands env.words p.1 f → Lands env.words e f
+    clause_lands : (i : ℕ) (p : ℕ × ℕ) → slice_get (paired env.words sp) i ≡ Some p → (f : Flow V) → Lands env.words p.1 f → Lands env.words e f
     clause_lands i p at f h =
-        let j = clause_at o (seconds sp) i p.1 (seconds-at sp i p at) in
+        let j = clause_at o (seconds (paired env.words sp)) i p.1 (seconds-at (paired env.words sp) i p at) in
         if_lands j.0 p.1 j.1 f
-        (joined_at (behavior env.words) (else_of (behavior env.words) o) sp i p at f h.0) h.1
+        (joined_at (behavior env.words) (else_of (behavior env.words) o) (paired env.words sp) i p at f h.0) h.1
 
-  else_lands : (G : Type 0) (sp : List (ℕ × ℕ)) (o : Option ℕ) → control env.words e ≡ T.If sp o → MayBeChild env.words e Kind.Body o → Else env (Lands env.words e) G o
+  else_lands : (G : Type 0) (sp : Pairs) (o : Option ℕ) → control env.words e ≡ T.If sp o → MayBeChild env.words e Kind.Body o → Else env (Lands env.words e) G o
   else_lands G sp None is h =
-      (settles env.words {V = V} w e (T.If sp None) is lt F.Next (joined_left {V = V} (behavior env.words) only_next sp F.Next refl), tt)
+      (settles env.words {V = V} w e (T.If sp None) is lt F.Next (joined_left {V = V} (behavior env.words) only_next (paired env.words sp) F.Next refl), tt)
   else_lands G sp (Some b) is h =
-      ((h.1, h.2), λ f k. if_lands sp (Some b) is 0 b refl f (joined_left (behavior env.words) (behavior env.words b) sp f k.0) k.1)
+      ((h.1, h.2), λ f k. if_lands sp (Some b) is 0 b refl f (joined_left (behavior env.words) (behavior env.words b) (paired env.words sp) f k.0) k.1)
 
   -- a switch ends as one of its bodies, but for Break, and with Next if it has no default
-  module _ (sp : List (ℕ × ℕ)) (is : control env.words e ≡ T.Switch sp) where
-    switch_next : (((bodies_of env.words sp).next || (bodies_of env.words sp).breaks) || defaultless sp) ≡ true → Lands env.words {V = V} e F.Next
+  module _ (sp : Pairs) (is : control env.words e ≡ T.Switch sp) where
+    switch_next : (((bodies_of env.words sp).next || (bodies_of env.words sp).breaks) || defaultless env.words sp) ≡ true → Lands env.words {V = V} e F.Next
     switch_next h = (settles env.words {V = V} w e (T.Switch sp) is lt F.Next h, tt)
 
-    switch_lands : (i : ℕ) (p : ℕ × ℕ) → slice_get sp i ≡ Some p → (f : Flow V) → Lands env.words p.1 f → Lands env.words e (past f)
+    switch_lands : (i : ℕ) (p : ℕ × ℕ) → slice_get (paired env.words sp) i ≡ Some p → (f : Flow V) → Lands env.words p.1 f → Lands env.words e (past f)
     switch_lands i p at F.Next h =
         let all = bodies_of env.words sp in
         switch_next
-        (or_left (all.next || all.breaks) (defaultless sp)
+        (or_left (all.next || all.breaks) (defaultless env.words sp)
         (or_left all.next all.breaks (bodies_have V env.words sp i p at F.Next h.0)))
     switch_lands i p at F.Break h =
         let all = bodies_of env.words sp in
         switch_next
-        (or_left (all.next || all.breaks) (defaultless sp)
+        (or_left (all.next || all.breaks) (defaultless env.words sp)
         (or_right all.next all.breaks (bodies_have V env.words sp i p at F.Break h.0)))
     switch_lands i p at F.Continue h =
         (settles env.words {V = V} w e (T.Switch sp) is lt F.Continue (bodies_have V env.words sp i p at F.Continue h.0), tt)
     switch_lands i p at (F.Return v) h = (
       settles env.words w e (T.Switch sp) is lt (F.Return v) (bodies_have V env.words sp i p at (F.Return v) h.0),
-      rises env.words w e (T.Switch sp) is i p.1 (seconds-at sp i p at) (F.Return v) h.1,
+      rises env.words w e (T.Switch sp) is i p.1 (seconds-at (paired env.words sp) i p at) (F.Return v) h.1,
     )
 
   -- a loop ends with Next at a break of its body or by its break-if, and with the returns of its body
@@ -184,11 +186,11 @@ module _ {V : Type 0} (env : Env V) (w : WellFormed env.words) (e : ℕ) (lt : e
   )
 
   -- what ends a loop with the body b that is its first child
-  body-returns : (t : Control) → control env.words e ≡ t → (b : ℕ) → slice_get (children_of t) 0 ≡ Some b → ((v : Option V) → has (behavior env.words b) (F.Return v) ≡ true → has (control_behavior env.words (behavior env.words) t) (F.Return v) ≡ true) → (v : Option V) → Lands env.words b (F.Return v) → Lands env.words e (F.Return v)
+  body-returns : (t : Control) → control env.words e ≡ t → (b : ℕ) → slice_get (children_of env.words t) 0 ≡ Some b → ((v : Option V) → has (behavior env.words b) (F.Return v) ≡ true → has (control_behavior env.words (behavior env.words) t) (F.Return v) ≡ true) → (v : Option V) → Lands env.words b (F.Return v) → Lands env.words e (F.Return v)
   body-returns t is b at up v h =
       (settles env.words w e t is lt (F.Return v) (up v h.0), rises env.words w e t is 0 b at (F.Return v) h.1)
 
-  pub round_keeps : {n : Option Node} → IsLoop n → control env.words e ≡ control_of n → IfSome n (Children env.words e) → (s : Store V) → Keep env (Lands env.words e) (IsLoop n) (opened (statement_round env e (entry_of n) s))
+  pub round_keeps : {n : Option Node} → IsLoop n → control env.words e ≡ control_of n → IfSome n (Children env.words e) → (s : Store V) → Keep env (Lands env.words e) (IsLoop n) (opened (statement_round env e (entry_of env.words n) s))
   unfolding opened
   round_keeps (is_loop {b = b} {c = c}) is h s = (
     (h.0.1, h.0.2),
@@ -231,7 +233,7 @@ module _ {V : Type 0} (env : Env V) (w : WellFormed env.words) (e : ℕ) (lt : e
         ) ends,
       )
 
-  pub statement_keeps : (n : Option Node) → control env.words e ≡ control_of n → takes Kind.Statement (node_tag n) ≡ true → IfSome n (Children env.words e) → (s : Store V) → Keep env (Lands env.words e) (IsLoop n) (as_statement env (entry_of n) s)
+  pub statement_keeps : (n : Option Node) → control env.words e ≡ control_of n → takes Kind.Statement (node_tag n) ≡ true → IfSome n (Children env.words e) → (s : Store V) → Keep env (Lands env.words e) (IsLoop n) (as_statement env (entry_of env.words n) s)
   unfolding entry_at
   statement_keeps (Some N.Empty) is k h s = plain is
   statement_keeps (Some (N.Compound sp)) is k h s = compound_keeps (IsLoop (Some (N.Compound sp))) sp is h Regular s
@@ -255,13 +257,13 @@ module _ {V : Type 0} (env : Env V) (w : WellFormed env.words) (e : ℕ) (lt : e
     λ o s' z. reference_keeps env (Lands env.words e) (IsLoop (Some (N.Decrement c))) o s' (λ place v t. stepped env C.DecrOverflow C.DecrType place (env.operators.down v) t) (λ place v. stepped_keeps env (Lands env.words e) (IsLoop (Some (N.Decrement c))) (plain is) C.DecrOverflow C.DecrType (λ fit. tt) (λ fit. tt) place (env.operators.down v) s'),
   )
   statement_keeps (Some (N.If sp o)) is k h s =
-      clauses_keeps env (Lands env.words e) (IsLoop (Some (N.If sp o))) sp o
+      clauses_keeps env (Lands env.words e) (IsLoop (Some (N.If sp o))) (paired env.words sp) o
       (λ i p at. (((h.0 i p at).1, (h.0 i p at).2), (((h.1 i p at).1, (h.1 i p at).2), clause_lands sp o is i p at)))
       (else_lands (IsLoop (Some (N.If sp o))) sp o is h.2) s
   statement_keeps (Some (N.Switch c sp)) is k h s = (
     (h.0.1, h.0.2),
     (λ x t a. a),
-    λ o s' z. selecting_keeps env (Lands env.words e) (IsLoop (Some (N.Switch c sp))) (S.loaded o) sp None (λ i p at. ((λ some. ((h.1 i p at some).1, (h.1 i p at some).2)), (((h.2 i p at).1, (h.2 i p at).2), switch_lands sp is i p at))) (λ d. switch_next sp is (or_right ((bodies_of env.words sp).next || (bodies_of env.words sp).breaks) (defaultless sp) (not_from_false (has_default sp) d))) s',
+    λ o s' z. selecting_keeps env (Lands env.words e) (IsLoop (Some (N.Switch c sp))) (S.loaded o) (paired env.words sp) None (λ i p at. ((λ some. ((h.1 i p at some).1, (h.1 i p at some).2)), (((h.2 i p at).1, (h.2 i p at).2), switch_lands sp is i p at))) (λ d. switch_next sp is (or_right ((bodies_of env.words sp).next || (bodies_of env.words sp).breaks) (defaultless env.words sp) (not_from_false (has_default (paired env.words sp)) d))) s',
   )
   statement_keeps (Some (N.Loop b c)) is k h s = is_loop
   statement_keeps (Some (N.For i c u b)) is k h s =

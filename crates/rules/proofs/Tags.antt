@@ -12,6 +12,7 @@ use Rattle.shape.specs.declared.Construct.TheVariants.{Unit as UnitEntry, Empty,
 use Rattle.layout.specs.Layout.{construct, entries, place}
 use Rattle.book.specs.Nodes.{assignment_node, binary_node, decode, node_at, node_of}
 use Rattle.layout.specs.WellFormed.{WellFormed}
+use Rattle.book.specs.declared.node.Items.{Items}
 use Rattle.book.specs.declared.node.Node.{Node}
 use Rattle.book.specs.declared.node.Node.TheVariants as N
 use Rattle.rules.specs.Tree.{entry_of, is_statement}
@@ -78,8 +79,8 @@ node_tag (Some (N.Function n a b t c s)) = 48
 
 -- The nodes that a field for a block, a call or a continuing takes, and the others
 pub data Told : Option Node → Type 0 where
-  a_block : {s : List ℕ} → Told (Some (N.Compound s))
-  a_call : {n : ℕ} {s : List ℕ} → Told (Some (N.Call n s))
+  a_block : {s : Items} → Told (Some (N.Compound s))
+  a_call : {n : ℕ} {s : Items} → Told (Some (N.Call n s))
   a_continuing : {b : ℕ} {c : Option ℕ} → Told (Some (N.Continuing b c))
   another :
       {n : Option Node} → takes C.Body (node_tag n) ≡ false → takes C.Call (node_tag n) ≡ false
@@ -216,7 +217,7 @@ pub update_taken : (t : ℕ) → takes C.Update t ≡ true → takes C.Statement
 update_taken t h = one_passes (takes C.Statement) t (3 ∷ 4 ∷ 5 ∷ 15 ∷ []) h refl
 
 -- The statements are what a field for a statement takes
-pub statement_tag : (ws : List ℕ) (n : Option Node) → is_statement (entry_of n) ≡ takes C.Statement (node_tag n)
+pub statement_tag : (ws : List ℕ) (n : Option Node) → is_statement (entry_of ws n) ≡ takes C.Statement (node_tag n)
 statement_tag ws None = refl
 statement_tag ws (Some (N.Unit s)) = refl
 statement_tag ws (Some N.Empty) = refl

@@ -1,10 +1,10 @@
--- The tree of a rule, entry by entry: statements, expressions and functions, with their lists.
+-- The tree of a rule, entry by entry: statements, expressions and functions, with the lists that a book keeps as spans.
 use Rattle.std.specs.Prelude.{ℕ, Bool, true, false, cond, List, [], Some, None, Option, ◌==◌}
 use Rattle.syntax.specs.declared.BinaryOperator.{BinaryOperator}
 use Rattle.syntax.specs.declared.DeclarationKind.{DeclarationKind}
 use Rattle.syntax.specs.declared.ShortCircuit.{ShortCircuit as ShortOperator}
 use Rattle.syntax.specs.declared.UnaryOperator.{UnaryOperator}
-use Rattle.book.specs.Nodes.{node_at}
+use Rattle.book.specs.Nodes.{listed, node_at, paired}
 use Rattle.book.specs.declared.node.Node.{Node}
 use Rattle.book.specs.declared.node.Node.TheVariants as N
 
@@ -61,40 +61,41 @@ pub data Entry : Type 0 where
   -- there is no such entry
   absent : Entry
 
-abbrev pub entry_of : Option Node → Entry
-entry_of None = absent
-entry_of (Some (N.Unit s)) = unit s
-entry_of (Some N.Empty) = statement Empty
-entry_of (Some (N.Compound s)) = statement (Compound s)
-entry_of (Some (N.Assignment op l r)) = statement (Assignment op l r)
-entry_of (Some (N.Increment c)) = statement (Increment c)
-entry_of (Some (N.Decrement c)) = statement (Decrement c)
-entry_of (Some (N.If s o)) = statement (If s o)
-entry_of (Some (N.Switch c s)) = statement (Switch c s)
-entry_of (Some (N.Loop b c)) = statement (Loop b c)
-entry_of (Some (N.For i c u b)) = statement (For i c u b)
-entry_of (Some (N.While c b)) = statement (While c b)
-entry_of (Some N.Break) = statement Break
-entry_of (Some N.Continue) = statement Continue
-entry_of (Some (N.Return c)) = statement (Return c)
-entry_of (Some N.Discard) = statement Discard
-entry_of (Some (N.CallStatement c)) = statement (CallStatement c)
-entry_of (Some (N.ConstAssert c)) = statement (ConstAssert c)
-entry_of (Some (N.Declaration k n t c)) = statement (Declaration k n t c)
-entry_of (Some (N.Continuing b c)) = continuing b c
-entry_of (Some (N.Literal k w)) = expression (Literal k w)
-entry_of (Some (N.Parenthesized c)) = expression (Parenthesized c)
-entry_of (Some (N.Unary op c)) = expression (Unary op c)
-entry_of (Some (N.Binary op l r)) = expression (Binary op l r)
-entry_of (Some (N.ShortCircuit op l r)) = expression (ShortCircuit op l r)
-entry_of (Some (N.Name n)) = expression (Name n)
-entry_of (Some (N.Call n s)) = expression (Call n s)
-entry_of (Some (N.Function n a b t c s)) =
-    function (record { name = n; is_const = a; must_use = b; ty = t; body = c; parameters = s })
+module _ (ws : List ℕ) where
+  abbrev pub entry_of : Option Node → Entry
+  entry_of None = absent
+  entry_of (Some (N.Unit s)) = unit (listed ws s)
+  entry_of (Some N.Empty) = statement Empty
+  entry_of (Some (N.Compound s)) = statement (Compound (listed ws s))
+  entry_of (Some (N.Assignment op l r)) = statement (Assignment op l r)
+  entry_of (Some (N.Increment c)) = statement (Increment c)
+  entry_of (Some (N.Decrement c)) = statement (Decrement c)
+  entry_of (Some (N.If s o)) = statement (If (paired ws s) o)
+  entry_of (Some (N.Switch c s)) = statement (Switch c (paired ws s))
+  entry_of (Some (N.Loop b c)) = statement (Loop b c)
+  entry_of (Some (N.For i c u b)) = statement (For i c u b)
+  entry_of (Some (N.While c b)) = statement (While c b)
+  entry_of (Some N.Break) = statement Break
+  entry_of (Some N.Continue) = statement Continue
+  entry_of (Some (N.Return c)) = statement (Return c)
+  entry_of (Some N.Discard) = statement Discard
+  entry_of (Some (N.CallStatement c)) = statement (CallStatement c)
+  entry_of (Some (N.ConstAssert c)) = statement (ConstAssert c)
+  entry_of (Some (N.Declaration k n t c)) = statement (Declaration k n t c)
+  entry_of (Some (N.Continuing b c)) = continuing b c
+  entry_of (Some (N.Literal k w)) = expression (Literal k w)
+  entry_of (Some (N.Parenthesized c)) = expression (Parenthesized c)
+  entry_of (Some (N.Unary op c)) = expression (Unary op c)
+  entry_of (Some (N.Binary op l r)) = expression (Binary op l r)
+  entry_of (Some (N.ShortCircuit op l r)) = expression (ShortCircuit op l r)
+  entry_of (Some (N.Name n)) = expression (Name n)
+  entry_of (Some (N.Call n s)) = expression (Call n (listed ws s))
+  entry_of (Some (N.Function n a b t c s)) =
+      function (record { name = n; is_const = a; must_use = b; ty = t; body = c; parameters = paired ws s })
 
--- What the entry e is.
-unfoldable pub entry_at : List ℕ → ℕ → Entry
-entry_at ws e = entry_of (node_at ws e)
+  -- What the entry e is.
+  unfoldable pub entry_at : ℕ → Entry
+  entry_at e = entry_of (node_at ws e)
 
 abbrev pub function_of : Entry → Option Function
 function_of (function f) = Some f

@@ -1,7 +1,8 @@
 // The listing of a book: a line for each entry.
 ghost use Rattle.std.specs.Iterator.{IsFinite};
 
-use book::node::{Items, Node, Pairs, optional};
+use book::book::Book;
+use book::node::{Listed, Node, Paired, optional};
 use host::literal_number;
 use std::fmt::{Display, Formatter, Result, Write};
 use syntax::BinaryOperator;
@@ -72,7 +73,7 @@ where
 
 // Entries.
 #[derive(Drop)]
-struct List<'a>(&'a Items<'a>);
+struct List<'a>(Listed<'a>);
 
 impl Display for List<'_> {
     fn fmt<W: Write>(&self, f: &mut Formatter<W>) -> Result {
@@ -82,7 +83,7 @@ impl Display for List<'_> {
 
 // Pairs of words: the clauses of an `if`, or parameters.
 #[derive(Drop)]
-struct Clauses<'a>(&'a Pairs<'a>);
+struct Clauses<'a>(Paired<'a>);
 
 impl Display for Clauses<'_> {
     fn fmt<W: Write>(&self, f: &mut Formatter<W>) -> Result {
@@ -109,7 +110,7 @@ impl Display for Selector {
 
 // The clauses of a switch.
 #[derive(Drop)]
-struct Cases<'a>(&'a Pairs<'a>);
+struct Cases<'a>(Paired<'a>);
 
 impl Display for Cases<'_> {
     fn fmt<W: Write>(&self, f: &mut Formatter<W>) -> Result {
@@ -121,26 +122,31 @@ impl Display for Cases<'_> {
     }
 }
 
-// The line of an entry: its number, its construct, and the parts that it has.
+// The line of an entry: its number, its construct, and the parts that it has. The book has the words of its lists.
 #[derive(Drop)]
 pub struct Line<'a> {
+    pub book: Book<'a>,
     pub entry: u16,
-    pub node: Node<'a>,
+    pub node: Node,
 }
 
 impl Display for Line<'_> {
     fn fmt<W: Write>(&self, f: &mut Formatter<W>) -> Result {
-        let entry = self.entry;
+        let Line { book, entry, node } = *self;
         write!(f, "{entry} ")?;
-        match &self.node {
-            Node::Unit { children } => write!(f, "unit children={}", List(children)),
+        match node {
+            Node::Unit { children } => write!(f, "unit children={}", List(book.listed(children))),
             Node::Empty => f.write_str("empty"),
-            Node::Compound { statements } => write!(f, "compound statements={}", List(statements)),
+            Node::Compound { statements } => write!(
+                f,
+                "compound statements={}",
+                List(book.listed(statements))
+            ),
             Node::Assignment { operator, lhs, rhs } => {
                 write!(
                     f,
                     "assignment operator={} lhs={lhs} rhs={rhs}",
-                    Assigned(*operator)
+                    Assigned(operator)
                 )
             }
             Node::Increment { operand } => write!(f, "increment operand={operand}"),
@@ -149,8 +155,8 @@ impl Display for Line<'_> {
                 write!(
                     f,
                     "if clauses={}{}",
-                    Clauses(clauses),
-                    Part("else", *otherwise)
+                    Clauses(book.paired(clauses)),
+                    Part("else", otherwise)
                 )
             }
             Node::Switch {
@@ -160,11 +166,11 @@ impl Display for Line<'_> {
                 write!(
                     f,
                     "switch expression={expression} clauses={}",
-                    Cases(clauses)
+                    Cases(book.paired(clauses))
                 )
             }
             Node::Loop { body, continuing } => {
-                write!(f, "loop body={body}{}", Part("continuing", *continuing))
+                write!(f, "loop body={body}{}", Part("continuing", continuing))
             }
             Node::For {
                 initializer,
@@ -174,14 +180,14 @@ impl Display for Line<'_> {
             } => write!(
                 f,
                 "for{}{}{} body={body}",
-                Part("initializer", *initializer),
-                Part("condition", *condition),
-                Part("update", *update),
+                Part("initializer", initializer),
+                Part("condition", condition),
+                Part("update", update),
             ),
             Node::While { condition, body } => write!(f, "while condition={condition} body={body}"),
             Node::Break => f.write_str("break"),
             Node::Continue => f.write_str("continue"),
-            Node::Return { expression } => write!(f, "return{}", Part("expression", *expression)),
+            Node::Return { expression } => write!(f, "return{}", Part("expression", expression)),
             Node::Discard => f.write_str("discard"),
             Node::CallStatement { call } => write!(f, "call-statement call={call}"),
             Node::ConstAssert { expression } => write!(f, "const-assert expression={expression}"),
@@ -193,14 +199,14 @@ impl Display for Line<'_> {
             } => write!(
                 f,
                 "declaration kind={kind} name={name}{}{}",
-                Part("type", *ty),
-                Part("initializer", *initializer),
+                Part("type", ty),
+                Part("initializer", initializer),
             ),
             Node::Continuing { body, break_if } => {
-                write!(f, "continuing body={body}{}", Part("break-if", *break_if))
+                write!(f, "continuing body={body}{}", Part("break-if", break_if))
             }
             Node::Literal { kind, words } => {
-                write!(f, "literal kind={kind} number={}", literal_number(*words))
+                write!(f, "literal kind={kind} number={}", literal_number(words))
             }
             Node::Parenthesized { expression } => write!(
                 f,
@@ -224,7 +230,7 @@ impl Display for Line<'_> {
             Node::Call { name, arguments } => write!(
                 f,
                 "call name={name} arguments={}",
-                List(arguments)
+                List(book.listed(arguments))
             ),
             Node::Function {
                 name,
@@ -236,10 +242,10 @@ impl Display for Line<'_> {
             } => write!(
                 f,
                 "function name={name}{}{}{} parameters={} body={body}",
-                Flag("const", *is_const),
-                Flag("must-use", *must_use),
-                Part("type", *ty),
-                Clauses(parameters),
+                Flag("const", is_const),
+                Flag("must-use", must_use),
+                Part("type", ty),
+                Clauses(book.paired(parameters)),
             ),
         }
     }

@@ -53,7 +53,14 @@ fn print_size(rt: &HostRuntime, book: &Book) -> anyhow::Result<()> {
 fn print_entries(rt: &HostRuntime, book: &Book) -> anyhow::Result<()> {
     for entry in 0..book.entries() {
         if let Some(node) = book.node(entry) {
-            println!(rt; "{}", Line { entry, node })?;
+            println!(rt;
+                "{}",
+                Line {
+                    book: *book,
+                    entry,
+                    node,
+                }
+            )?;
         }
     }
     Ok(())

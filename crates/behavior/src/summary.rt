@@ -5,7 +5,7 @@ ghost use Rattle.book.specs.Nodes.{listed, paired};
 ghost use Rattle.behavior.specs.Below.{earlier};
 ghost use Rattle.behavior.specs.Rules.{behavior_at, has_default, looped, none, only_next, plus_next, tested, turned};
 ghost use Rattle.behavior.specs.Summaries.{Follows, bare_set, clauses_from, continuing_summary, control_summary, list_from, return_summary, summary, with_set};
-ghost use Rattle.control.specs.Control.{control};
+ghost use Rattle.control.specs.Control.{control, exits};
 ghost use Rattle.control.specs.declared.Control.TheVariants.{Sequence, Switch};
 
 use crate::set::{BREAK, Behavior, CONTINUE, NEXT, NONE, RETURN};
@@ -166,6 +166,15 @@ impl<'a> Summaries<'a> {
         control_at(&self.book, entry)
     }
 
+    // Whether an entry is a continuing with a break-if. A call of its own, so that no level of the recursion has room for this
+    // control too.
+    #[inline(never)]
+    fn exits(&self, entry: u16) -> bool
+        ensures { result ≡ exits (control self.now entry) }
+    {
+        self.control(entry).exits()
+    }
+
     // The summary of an entry, from the table, or else made and kept there; past the last entry there is nothing.
     #[cycle(summaries)]
     #[tactic(auto, using(crate::proofs::Walked::few_entries, crate::proofs::Walked::past_summary))]
@@ -212,15 +221,13 @@ impl<'a> Summaries<'a> {
                 self.of_clauses(entry, clauses, Summary::of(NONE))
                     .switched(default)
             }
-            Control::Loop(body, None) => self.of(body).looped(),
+            Control::Loop(body, None) | Control::Forever(body) => self.of(body).looped(),
             Control::Loop(body, Some(last)) => {
                 let first = self.of(body);
                 let second = self.of(last);
-                let exits = self.control(last).exits();
-                first.with(second, first.behavior.looped(exits))
+                first.with(second, first.behavior.looped(self.exits(last)))
             }
             Control::While(body) => self.of(body).tested(),
-            Control::Forever(body) => self.of(body).looped(),
             Control::Continuing(body, _) => self.of(body).continuing(entry),
             Control::Function(_, _, body) => self.of(body),
         }

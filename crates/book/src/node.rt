@@ -19,7 +19,7 @@ pub struct Items {
     pub count: u16,
 }
 
-// A list of pairs of words in the book.
+// A list of pairs of words in the book: a type of its own, so that none is read as a list of words.
 #[derive(Clone, Copy)]
 pub struct Pairs {
     pub start: usize,

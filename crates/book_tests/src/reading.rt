@@ -1,5 +1,5 @@
 use book::book::Book;
-use book::node::Node;
+use book::node::{Items, Node, Pairs};
 use std::test::Fail;
 use syntax::BinaryOperator;
 
@@ -11,9 +11,9 @@ fn an_if_with_two_clauses_and_an_else(rt: HostRuntime) -> Result<(), Fail> {
     assert!(rt; book.load(&words).is_ok());
     match book.node(1) {
         Some(Node::If { clauses, otherwise }) => {
-            assert_eq!(rt; clauses.len(), 2);
-            assert_eq!(rt; clauses.get(1), Some((2, 3)));
-            assert_eq!(rt; clauses.get(2), None);
+            assert_eq!(rt; clauses.count, 2);
+            assert_eq!(rt; book.pair(clauses, 1), Some((2, 3)));
+            assert_eq!(rt; book.pair(clauses, 2), None);
             assert_eq!(rt; otherwise, Some(3));
             Ok(())
         }
@@ -55,6 +55,7 @@ fn lists_end_with_their_words(rt: HostRuntime) -> Result<(), Fail> {
     );
     match book.node(1) {
         Some(Node::Compound { statements }) => {
+            let statements = book.listed(statements);
             assert_eq!(rt; statements.len(), 2);
             assert_eq!(rt; statements.get(1), Some(3));
             assert_eq!(rt; statements.get(2), None);
@@ -74,6 +75,7 @@ fn lists_end_with_their_words(rt: HostRuntime) -> Result<(), Fail> {
     );
     match book.node(1) {
         Some(Node::Switch { clauses, .. }) => {
+            let clauses = book.paired(clauses);
             assert_eq!(rt; clauses.len(), 1);
             assert_eq!(rt; clauses.get(0), Some((0, 3)));
             assert_eq!(rt; clauses.get(1), None);
@@ -84,12 +86,33 @@ fn lists_end_with_their_words(rt: HostRuntime) -> Result<(), Fail> {
         }
         _ => return Err(Fail::new("no switch")),
     }
-    match Book::empty().node(0) {
+    let empty = Book::empty();
+    match empty.node(0) {
         Some(Node::Unit { children }) => {
+            let children = empty.listed(children);
             assert_eq!(rt; children.len(), 0);
             assert_eq!(rt; children.get(0), None);
             Ok(())
         }
         _ => Err(Fail::new("no unit")),
     }
+}
+
+#[test]
+fn a_span_past_the_words(rt: HostRuntime) {
+    let book = Book::empty();
+    assert_eq!(rt; book.item(Items { start: 2, count: 9 }, 1), Some(0));
+    assert_eq!(rt; book.item(Items { start: 2, count: 9 }, 2), None);
+    assert_eq!(rt;
+        book.item(
+            Items {
+                start: 18446744073709551615,
+                count: 9,
+            },
+            2,
+        ),
+        None
+    );
+    assert_eq!(rt; book.pair(Pairs { start: 2, count: 9 }, 0), Some((0, 0)));
+    assert_eq!(rt; book.pair(Pairs { start: 3, count: 9 }, 0), None);
 }

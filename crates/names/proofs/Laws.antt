@@ -21,7 +21,7 @@ use Rattle.names.proofs.Opened.{root_end_le}
 
 -- ## Scopes in order
 
-nested_parts : (scope : Scope) (outer : List Scope) (n : ℕ) → nested (scope ∷ outer) n ≡ true → (scope.first ≤ n) × (nested outer scope.first ≡ true)
+pub nested_parts : (scope : Scope) (outer : List Scope) (n : ℕ) → nested (scope ∷ outer) n ≡ true → (scope.first ≤ n) × (nested outer scope.first ≡ true)
 nested_parts scope outer n h = let p = and_parts (leb scope.first n) (nested outer scope.first) h in (leb-true _ _ p.0, p.1)
 
 if_call_le : (kind : ScopeKind) (a b n : ℕ) → a ≤ n → b ≤ n → if_call kind a b ≤ n
@@ -53,17 +53,17 @@ module _ {V : Type 0} where
   -- ## The root's names
 
   module _ (s : State V) (h : nested s.scopes (length s.bindings) ≡ true) where
-    root_count : length (root_names s) ≡ root_end s.scopes (length s.bindings)
+    pub root_count : length (root_names s) ≡ root_end s.scopes (length s.bindings)
     root_count = length-take-le _ s.bindings (root_end_le s.scopes (length s.bindings) h)
 
     pub root_survives : root_names (close_all s) ≡ root_names s
     root_survives = take_all (length (root_names s)) (root_names s) (omega arith)
 
   module _ (scope : Scope) (outer : List Scope) (bs : List (Binding V)) (h : nested (scope ∷ outer) (length bs) ≡ true) where
-    first_count : length (take scope.first bs) ≡ scope.first
+    pub first_count : length (take scope.first bs) ≡ scope.first
     first_count = length-take-le scope.first bs (nested_parts scope outer (length bs) h).0
 
-    still_nested : nested outer (length (take scope.first bs)) ≡ true
+    pub still_nested : nested outer (length (take scope.first bs)) ≡ true
     still_nested = subst (λ k. nested outer k ≡ true) (sym first_count) (nested_parts scope outer (length bs) h).1
 
     root_same : take (root_end outer (length (take scope.first bs))) (take scope.first bs) ≡ take (root_end outer scope.first) bs

@@ -3,3 +3,4 @@ pub mod Newest
 pub mod Laws
 pub mod Scoping
 pub mod Writing
+pub mod Keeping

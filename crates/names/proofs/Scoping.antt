@@ -1,5 +1,5 @@
 -- A table of names of which no scope is open, with one scope more, or one less.
-use Rattle.std.proofs.Common.{◌≡◌, ℕ, true, cond, replicate, get_or, sym, refl, ap, ◌∙◌, subst, ⊎_elim, arith}
+use Rattle.std.proofs.Common.{◌≡◌, ℕ, ◌≤◌, true, cond, replicate, get_or, sym, refl, ap, ◌∙◌, subst, ⊎_elim, arith}
 use Rattle.std.proofs.lemmas.List.{get_or-replicate, get_or_past, length-replicate}
 use Rattle.std.proofs.lemmas.Bool.{cases_lt}
 use Rattle.names.specs.Laws.{GivesBack}
@@ -21,14 +21,16 @@ blank n k =
     (cases_lt k n)
 
 -- No scope is open in a table of blank records.
-pub scoped_none : (s : Scope) (n : ℕ) → s ≡ closed → Scoped (replicate 257 s) 0 0 n
-scoped_none s n is =
+pub scoped_none : (s : Scope) (n usable : ℕ) → s ≡ closed → n ≤ usable → Scoped (replicate 257 s) 0 257 0 n usable
+scoped_none s n usable is few =
     record {
+      counted = few;
       sized = length-replicate 257 s;
       shallow = omega arith;
       in_order = refl;
       called = refl;
-      cleared = λ k _. ap (λ x. get_or (replicate 257 x) k closed) is ∙ blank 257 k;
+      opened_clean = omega arith;
+      cleared = λ k _ _. ap (λ x. get_or (replicate 257 x) k closed) is ∙ blank 257 k;
     }
 
 -- What an open scope gives back once it is closed.

@@ -3,6 +3,7 @@ ghost use Rattle.std.specs.Prelude.{◌≡◌, Ok};
 ghost use Rattle.std.specs.Result.{result_unwrap_or};
 ghost use Rattle.names.specs.Laws.{Finds, OthersStay};
 ghost use Rattle.names.specs.Rules.{answered, bind};
+ghost use Rattle.names.specs.State.{Kept};
 
 use crate::binding::Binding;
 use crate::error::NameFault;
@@ -16,6 +17,7 @@ impl<V: Copy> Names<'_, V> {
         ensures state { self.new ≡ result_unwrap_or (bind name kind value self.old) self.old }
         ensures finds { result ≡ Ok tt → Finds (record { name = name; kind = kind; value = value }) self.old self.new }
         ensures others_stay { OthersStay name self.old self.new }
+        ensures kept { Kept V self.new }
     {
         if self.duplicate(name) {
             return Err(NameFault::DuplicateDecl);

@@ -1,6 +1,7 @@
 // A list in a slice that is lent to it, since a table of names has no memory of its own: the items are the first of the
 // slice, the others are free.
 ghost use Rattle.std.specs.Prelude.{◌≡◌, ◌≤◌, ◌<◌, ◌++◌, ◌∷◌, [], length, take, slice_set, MatchResult};
+ghost use Rattle.std.specs.List.{slice_get};
 
 use std::marker::Model;
 
@@ -44,6 +45,13 @@ impl<'a, T: Copy> LentVec<'a, T> {
         ensures within { length self.now.items ≤ self.now.capacity }
     {
         &self.slots[..self.len]
+    }
+
+    // The item at a place, if there is one.
+    pub(crate) fn get(&self, place: usize) -> Option<T>
+        ensures { result ≡ slice_get self.now.items place }
+    {
+        self.slots[..self.len].get(place).copied()
     }
 
     // One item more, unless every place has one.

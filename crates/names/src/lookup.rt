@@ -51,7 +51,8 @@ impl<V: Copy> Names<'_, V> {
 
     // Whether the innermost scope, or the parent of a transparent one, has the name already.
     pub fn duplicate(&self, name: u16) -> bool
-        ensures { result ≡ duplicate name self.now }
+        ensures answer { result ≡ duplicate name self.now }
+        ensures kept { Kept V self.now }
     {
         newest_from(self.bindings.as_slice(), local_first(self.open()), name).is_some()
     }

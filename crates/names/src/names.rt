@@ -17,6 +17,8 @@ pub struct Names<'a, V> {
     // a plain table, and no list that forgets its last record: one record is written on opening, and blanked on closing
     pub(crate) scopes: [Scope; MOST_SCOPES],
     pub(crate) depth: usize,
+    // the records of scopes that closed since the last opening are blank: those behind the open ones, up to here
+    pub(crate) clean: usize,
     // where the innermost call's names begin
     pub(crate) own: usize,
 }
@@ -31,5 +33,5 @@ impl<'a, V> Model for Names<'a, V> {
 
     ghost view = { λ n. record { bindings = n.bindings.items; scopes = opened n.scopes n.depth; usable = n.bindings.capacity } };
 
-    ghost invariant = { λ n. Scoped n.scopes n.depth n.own (length n.bindings.items) };
+    ghost invariant = { λ n. Scoped n.scopes n.depth n.clean n.own (length n.bindings.items) n.bindings.capacity };
 }

@@ -2,6 +2,7 @@
 ghost use Rattle.std.specs.Prelude.{◌≡◌, min, true, length, reverse, if◌then◌else◌};
 ghost use Rattle.names.specs.Laws.{GivesBack, close_times};
 ghost use Rattle.names.specs.Rules.{close_all, close_scope, empty, may_open, open_scope, root_names};
+ghost use Rattle.names.specs.State.{Kept};
 
 use crate::binding::Binding;
 use crate::lent::LentVec;
@@ -11,7 +12,8 @@ use crate::scope::{Scope, ScopeKind, call_first, root_end};
 impl<'a, V: Copy> Names<'a, V> {
     // No name, and the root's scope alone. The first 1,024 records are usable, or all of a shorter table.
     pub fn new(table: &'a mut [Binding<V>]) -> Names<'a, V>
-        ensures { result ≡ empty (min (length table.old) 1024) }
+        ensures state { result ≡ empty (min (length table.old) 1024) }
+        ensures kept { Kept V result }
     {
         let usable = table.len().min(MOST_NAMES);
         let (table, _) = table.split_at_mut(usable);
@@ -19,6 +21,7 @@ impl<'a, V: Copy> Names<'a, V> {
             bindings: LentVec::new(table),
             scopes: [Scope::default(); MOST_SCOPES],
             depth: 0,
+            clean: MOST_SCOPES,
             own: 0,
         }
     }
@@ -34,6 +37,7 @@ impl<'a, V: Copy> Names<'a, V> {
     pub fn open_scope(&mut self, kind: ScopeKind)
         ensures state { self.new ≡ (if may_open self.old then open_scope kind self.old else self.old) }
         ensures gives_back { may_open self.old ≡ true → GivesBack self.old self.new }
+        ensures kept { Kept V self.new }
     {
         if self.depth >= MOST_SCOPES {
             return;
@@ -44,12 +48,14 @@ impl<'a, V: Copy> Names<'a, V> {
         }
         self.scopes[self.depth] = Scope { first, kind };
         self.depth += 1;
+        self.clean = self.depth;
     }
 
     // The innermost scope closes, and its names are free. The root's stays open.
     pub fn close_scope(&mut self)
         ensures state { self.new ≡ close_scope self.old }
         ensures root_survives { root_names self.new ≡ root_names self.old }
+        ensures kept { Kept V self.new }
     {
         if self.depth == 0 {
             return;
@@ -68,11 +74,12 @@ impl<'a, V: Copy> Names<'a, V> {
         ensures state { self.new ≡ close_all self.old }
         ensures one_by_one { self.new ≡ close_times (length self.old.scopes) self.old }
         ensures root_survives { root_names self.new ≡ root_names self.old }
+        ensures kept { Kept V self.new }
     {
         let end = root_end(&self.scopes[..self.depth], self.bindings.len());
         self.bindings.truncate(end);
-        self.scopes[..self.depth].fill(Scope::default());
         self.depth = 0;
+        self.clean = 0;
         self.own = 0;
     }
 }

@@ -3,6 +3,7 @@ ghost use Rattle.std.specs.Prelude.{◌≡◌};
 ghost use Rattle.std.specs.Result.{result_unwrap_or};
 ghost use Rattle.names.specs.Laws.{OneValue};
 ghost use Rattle.names.specs.Rules.{answered, assign, variable, write};
+ghost use Rattle.names.specs.State.{Kept};
 
 use crate::binding::Binding;
 use crate::error::NameFault;
@@ -13,12 +14,11 @@ use syntax::DeclarationKind;
 impl<V: Copy> Names<'_, V> {
     // The variable at a place, if one is bound there.
     pub fn variable(&self, place: usize) -> Option<Binding<V>>
-        ensures { result ≡ variable place self.now }
+        ensures answer { result ≡ variable place self.now }
+        ensures kept { Kept V self.now }
     {
         self.bindings
-            .as_slice()
             .get(place)
-            .copied()
             .filter(|binding| binding.kind == DeclarationKind::Var)
     }
 
@@ -32,6 +32,7 @@ impl<V: Copy> Names<'_, V> {
         ensures answer { result ≡ answered (write (H.means host.now) place value self.old) }
         ensures state { self.new ≡ result_unwrap_or (write (H.means host.now) place value self.old) self.old }
         ensures one_value { OneValue (H.means host.now) place self.old self.new }
+        ensures kept { Kept V self.new }
     {
         let binding = self.variable(place).ok_or(NameFault::NotRef)?;
         if host.type_of(value) != host.type_of(binding.value) {
@@ -51,6 +52,7 @@ impl<V: Copy> Names<'_, V> {
         ensures answer { result ≡ answered (assign (H.means host.now) place value self.old) }
         ensures state { self.new ≡ result_unwrap_or (assign (H.means host.now) place value self.old) self.old }
         ensures one_value { OneValue (H.means host.now) place self.old self.new }
+        ensures kept { Kept V self.new }
     {
         let binding = self.variable(place).ok_or(NameFault::NotRef)?;
         let value = host

@@ -1,81 +1,65 @@
--- The library reads what is printed, and of what it reads only the beginnings that are `Unprinted` are not printed.
-use Rattle.std.proofs.Common.{◌≡◌, ◌≢◌, ◌⊎◌, inl, inr, ℕ, zero, suc, ◌^◌, ◌<◌, ◌≤◌, List, [], ◌∷◌, length, get_or, ℤ, pos, negsuc, neg_ℤ, Ok, Err, Result, decimal, sym, refl, ap, ◌∙◌, subst, ⊎_elim, arith, w64, SFits}
-use Rattle.std.specs.Str.{IsUtf8}
-use Rattle.std.specs.Str.Parse.{AllDigits, digits_value, ParsesUnsigned, ParsesSigned}
+-- What the decimals of a number begin with, and how long they are.
+use Rattle.std.proofs.Common.{◌≡◌, ℕ, zero, suc, ◌-◌, ◌^◌, ◌<◌, ◌≤◌, List, ◌∷◌, length, get_or, take, drop, ℤ, pos, negsuc, ◌-ℤ◌, decimal, sym, refl, ap, ◌∙◌, subst, arith, length-take, w64, SFits, to_z, of_z}
+use Rattle.std.proofs.lemmas.Slice.{first_rest}
+use Rattle.std.proofs.lemmas.Int.{ints}
+use Rattle.std.proofs.lemmas.Bool.Decides.{nat_tests}
+use Rattle.std.specs.Str.Parse.{AllDigits, digits_value}
 use Rattle.std.specs.Fmt.{signed_decimal}
-use Rattle.std.proofs.lemmas.Str.{IsUtf8-from_ascii}
-use Rattle.std.proofs.lemmas.Str.Parse.{IsNumeralModel, numerals_by_value, tells_digits, digit_at, parse_plain, parse_signed_plain, parse_signed_minus}
-use Rattle.std.proofs.lemmas.Fmt.{decimal_is_IsNumeral, decimal_digit, first_decimal, decimal-digits_value, IsAscii-decimal, IsAscii-signed}
-use Rattle.std.proofs.lemmas.Bool.Decides.{eqb_tells}
-use Rattle.std.specs.Result.{result_ok}
-use Rattle.fields.specs.Reading.{Prints, Unprinted}
+use Rattle.std.specs.Char.{digit_value}
+use Rattle.std.proofs.lemmas.Str.Parse.{IsNumeralModel, numerals_by_value, tells_digits, digits_value_short, digit_at}
+use Rattle.std.proofs.lemmas.Fmt.{decimal_is_IsNumeral, decimal_nonempty, length-decimal-le, first_decimal, decimal_digit, decimal-digits_value}
 
-own : IsNumeralModel (AllDigits 10) (digits_value 10)
+pub own : IsNumeralModel (AllDigits 10) (digits_value 10)
 own = numerals_by_value (AllDigits 10) tells_digits
 
--- A decimal has a digit first, and 0 first only if it is `0`.
-begins : (n : ℕ) → n < 2 ^ 64 → (48 ≤ get_or (decimal n) 0 0) × (get_or (decimal n) 0 0 ≤ 57) × (get_or (decimal n) 0 0 ≡ 48 → length (decimal n) ≡ 1) × (0 < n → 48 < get_or (decimal n) 0 0)
-begins zero h = let e = decimal_digit 0 (omega arith) in rw e (omega arith, omega arith, λ _. refl, λ z. absurd (omega arith))
-begins (suc n) h =
-    let numeral = (decimal_is_IsNumeral (suc n) h).0 in
-    let d = digit_at (decimal (suc n)) 0 numeral.1 numeral.0 in
-    let f = first_decimal (suc n) (omega arith) h in
-    (d.0, d.1, λ z. absurd (omega arith), λ _. f)
+pub at_most_19 : (n : ℕ) (bs : List ℕ) → n < 10 ^ 19 → decimal n ≡ bs → (0 < length bs) × (length bs ≤ 19)
+at_most_19 n bs h e =
+    subst (λ (x : List ℕ). (0 < length x) × (length x ≤ 19)) e (decimal_nonempty n (omega arith), length-decimal-le 19 n (omega arith) h (omega arith))
 
-natural_begins : (n : ℕ) → n < 2 ^ 64 → ¬ (Unprinted (decimal n))
-natural_begins n h u =
-    let b = begins n h in
-    ⊎_elim (λ p. omega arith) (⊎_elim (λ q. let one = b.2 q.0 in omega arith) (λ m. omega arith)) u
+pub digits_of : (n : ℕ) (bs : List ℕ) → n < 10 ^ 19 → decimal n ≡ bs → AllDigits 10 bs
+digits_of n bs h e = subst (AllDigits 10) e (decimal_is_IsNumeral n (omega arith)).0.1
 
-pub natural_printed : (n : ℕ) (bs : List ℕ) → n < 2 ^ 64 → decimal n ≡ bs → IsUtf8 bs × ¬ (Unprinted bs)
-natural_printed n bs h e = subst (λ (x : List ℕ). IsUtf8 x × ¬ (Unprinted x)) e (IsUtf8-from_ascii _ (IsAscii-decimal n h), natural_begins n h)
+pub no_zero_first : (n : ℕ) (bs : List ℕ) → n < 10 ^ 19 → decimal n ≡ bs → get_or bs 0 0 ≡ 48 → length bs ≡ 1
+no_zero_first zero bs h e z = ap length (sym e ∙ decimal_digit 0 (omega arith))
+no_zero_first (suc n) bs h e z =
+    let f = first_decimal (suc n) (omega arith) (omega arith) in
+    let g : get_or (decimal (suc n)) 0 0 ≡ 48 = ap (λ (x : List ℕ). get_or x 0 0) e ∙ z in
+    absurd (omega arith)
 
--- What is read of digits that are not `Unprinted` prints as them.
-digits_print : (bs : List ℕ) → (get_or bs 0 0 ≡ 48 → length bs ≡ 1) → AllDigits 10 bs → 0 < length bs → digits_value 10 bs < 2 ^ 64 → decimal (digits_value 10 bs) ≡ bs
-digits_print bs u d h s = decimal-digits_value own bs d h u s
+pub short : (ds : List ℕ) (k : ℕ) → AllDigits 10 ds → length ds ≤ k → digits_value 10 ds < 10 ^ k
+short ds k = digits_value_short own ds k
 
-one_zero : (bs : List ℕ) → ¬ (Unprinted bs) → 0 < length bs → get_or bs 0 0 ≡ 48 → length bs ≡ 1
-one_zero [] u h z = absurd (omega arith)
-one_zero (b ∷ []) u h z = refl
-one_zero (b ∷ c ∷ bs) u h z = absurd (u (inr (inl (z, omega arith))))
+pub front_short : (bs : List ℕ) (i n : ℕ) → i < length bs → length bs ≤ 19 → AllDigits 10 (take i bs) → n ≡ digits_value 10 (take i bs) → n < 10 ^ 18
+front_short bs i n h k d e =
+    let l : length (take i bs) ≤ 18 = simp length-take (omega arith) in
+    omega (arith, short (take i bs) 18 d l)
 
-pub natural_prints : (bs : List ℕ) {E : Type 0} (r : Result ℕ E) (n : ℕ) → ParsesUnsigned 64 10 bs r → r ≡ Ok n → ¬ (Unprinted bs) → decimal n ≡ bs
-natural_prints bs {E} r n p e u =
-    let q : (AllDigits 10 bs × (0 < length bs) × (digits_value 10 bs < 2 ^ 64)) × (n ≡ digits_value 10 bs) = rw e at (parse_plain own 64 bs r p (λ z. u (inl z))) in
-    ap decimal q.1 ∙ digits_print bs (one_zero bs u q.0.1) q.0.0 q.0.1 q.0.2
+-- a byte from 48 to 57 is a digit
+pub digit_is : (c : ℕ) → 48 ≤ c → c ≤ 57 → digit_value c ≡ c - 48
+digit_is c h k = grind (arith, nat_tests)
 
-negative_prints : (v : ℕ) (b : ℕ) (bs : List ℕ) → b ≡ 45 → get_or bs 0 0 ≢ 48 → AllDigits 10 bs → 0 < length bs → digits_value 10 bs < 2 ^ 64 → v ≡ digits_value 10 bs → signed_decimal (neg_ℤ (pos v)) ≡ b ∷ bs
-negative_prints zero b bs m z d h s e =
-    let p : decimal 0 ≡ bs = ap decimal e ∙ digits_print bs (λ x. absurd (z x)) d h s in
-    absurd (z (ap (λ (x : List ℕ). get_or x 0 0) (sym p ∙ decimal_digit 0 (omega arith))))
-negative_prints (suc k) b bs m z d h s e =
-    let p : decimal (suc k) ≡ bs = ap decimal e ∙ digits_print bs (λ x. absurd (z x)) d h s in
-    cc
+pub digit_at_place : (n : ℕ) (bs : List ℕ) (i : ℕ) → n < 10 ^ 19 → decimal n ≡ bs → i < length bs → (48 ≤ get_or bs i 0) × (get_or bs i 0 ≤ 57)
+digit_at_place n bs i h e l = let d = digit_at bs i (digits_of n bs h e) l in (omega arith, omega arith)
 
-integer_prints_by : (bs : List ℕ) {E : Type 0} (r : Result ℤ E) (z : ℤ) → ParsesSigned w64 10 bs r → r ≡ Ok z → ¬ (Unprinted bs) → (get_or bs 0 0 ≡ 45) ⊎ (get_or bs 0 0 ≢ 45) → signed_decimal z ≡ bs
-integer_prints_by bs {E} r z p e u (inr m) =
-    let q : (AllDigits 10 bs × (0 < length bs) × (digits_value 10 bs < 2 ^ 63)) × (z ≡ pos (digits_value 10 bs)) = rw e at (parse_signed_plain own w64 bs r p (λ x. u (inl x)) m) in
-    ap signed_decimal q.1 ∙ digits_print bs (one_zero bs u q.0.1) q.0.0 q.0.1 (omega arith)
-integer_prints_by [] {E} r z p e u (inl m) = absurd (omega arith)
-integer_prints_by (b ∷ bs) {E} r z p e u (inl m) =
-    let q : (AllDigits 10 bs × (0 < length bs) × (digits_value 10 bs ≤ 2 ^ 63)) × (z ≡ neg_ℤ (pos (digits_value 10 bs))) = rw e at (parse_signed_minus own w64 (b ∷ bs) r p m) in
-    ap signed_decimal q.1 ∙ negative_prints (digits_value 10 bs) b bs m (λ x. u (inr (inr (m, x)))) q.0.0 q.0.1 (omega arith) refl
+pub reads_back : (bs : List ℕ) (n : ℕ) → AllDigits 10 bs → n ≡ digits_value 10 bs → 0 < length bs → length bs ≤ 19 → (get_or bs 0 0 ≡ 48 → length bs ≡ 1) → (n < 10 ^ 19) × (decimal n ≡ bs)
+reads_back bs n d e h k z =
+    let s : digits_value 10 bs < 10 ^ 19 = short bs 19 d k in
+    (omega arith, ap decimal e ∙ decimal-digits_value own bs d h z (omega arith))
 
-integer_prints : (bs : List ℕ) {E : Type 0} (r : Result ℤ E) (z : ℤ) → ParsesSigned w64 10 bs r → r ≡ Ok z → ¬ (Unprinted bs) → SFits w64 z × (signed_decimal z ≡ bs)
-integer_prints bs {E} r z p e u =
-    let q : ParsesSigned {E = E} w64 10 bs (Ok z) = subst (λ (x : Result ℤ E). ParsesSigned w64 10 bs x) e p in
-    (subst (λ (x : ℤ). SFits w64 x) (sym q.1) q.0.1, integer_prints_by bs r z p e u (⊎_elim (λ x. inl x.1) (λ x. inr x.1) (eqb_tells (get_or bs 0 0) 45)))
+-- what prints with a minus sign is negative
+pub negative_from : (z : ℤ) (bs : List ℕ) → SFits w64 z → signed_decimal z ≡ 45 ∷ bs → (k : ℕ) × (z ≡ negsuc k) × (k < 2 ^ 63) × (decimal (suc k) ≡ bs)
+negative_from (pos n) bs f e =
+    let s : n < 2 ^ 63 = f.sfits in
+    let d = digit_at_place n (45 ∷ bs) 0 (omega arith) e (omega arith) in
+    absurd (omega arith)
+negative_from (negsuc k) bs f e = (k, refl, f.sfits, cc)
 
-pub integer_reads : (bs : List ℕ) {E : Type 0} (r : Result ℤ E) → ParsesSigned w64 10 bs r → ¬ (Unprinted bs) → Prints (SFits w64) signed_decimal bs (result_ok r)
-integer_reads bs {E} (Ok z) p u = integer_prints bs {E = E} (Ok z) z p refl u
-integer_reads bs {E} (Err e) p u = tt
+pub negative_is : (n : ℕ) → 0 < n → n ≤ 2 ^ 63 → to_z w64 (of_z w64 (negsuc 0 -ℤ to_z w64 (n - 1))) ≡ negsuc (n - 1)
+negative_is n h k = omega (arith, ints)
 
-integer_begins : (z : ℤ) → SFits w64 z → ¬ (Unprinted (signed_decimal z))
-integer_begins (pos n) f u = let s : n < 2 ^ 63 = f.sfits in natural_begins n (omega arith) u
-integer_begins (negsuc k) f u =
-    let s : k < 2 ^ 63 = f.sfits in
-    let b = (begins (suc k) (omega arith)).3 (omega arith) in
-    ⊎_elim (λ p. omega arith) (⊎_elim (λ q. omega arith) (λ m. omega arith)) u
+-- the first byte, and the rest as `&bytes[1..]` has it
+pub first_and_rest : (bs : List ℕ) (b : ℕ) → 0 < length bs → get_or bs 0 0 ≡ b → b ∷ take (length bs - 1) (drop 1 bs) ≡ bs
+first_and_rest bs b h e = ap (λ (x : ℕ). x ∷ take (length bs - 1) (drop 1 bs)) (sym e) ∙ sym (first_rest bs 0 h)
 
-pub integer_printed : (z : ℤ) (bs : List ℕ) → SFits w64 z → signed_decimal z ≡ bs → IsUtf8 bs × ¬ (Unprinted bs)
-integer_printed z bs f e = subst (λ (x : List ℕ). IsUtf8 x × ¬ (Unprinted x)) e (IsUtf8-from_ascii _ (IsAscii-signed z f.sfits), integer_begins z f)
+pub same_rest : (x y : ℕ) (xs ys text : List ℕ) → x ∷ xs ≡ text → y ∷ ys ≡ text → xs ≡ ys
+same_rest x y xs ys text p q = cc

@@ -1,5 +1,5 @@
 -- Reading as the inverse of printing: `print` writes the values of which `Valid` holds.
-use Rattle.std.specs.Prelude.{◌≡◌, ℕ, ◌<◌, ◌⊎◌, List, length, Some, None, Option, slice_index}
+use Rattle.std.specs.Prelude.{◌≡◌, ℕ, List, Some, None, Option}
 
 -- What is read of a text is a valid value that prints as that text.
 abbrev pub Prints : {V : Type 0} → (V → Type 0) → (V → List ℕ) → List ℕ → Option V → Type 0
@@ -9,9 +9,3 @@ Prints Valid print text None = Unit {0}
 -- Of the text that a valid value prints as, that value is read.
 abbrev pub Undoes : {V : Type 0} → (V → Type 0) → (V → List ℕ) → List ℕ → Option V → Type 0
 Undoes {V} Valid print text r = (v : V) → Valid v → print v ≡ text → r ≡ Some v
-
--- How no number is printed: with a plus sign, with a zero before other digits, or with a minus sign before a zero.
-abbrev pub Unprinted : List ℕ → Type 0
-Unprinted text =
-    (slice_index text 0 ≡ 43)
-    ⊎ (((slice_index text 0 ≡ 48) × (1 < length text)) ⊎ ((slice_index text 0 ≡ 45) × (slice_index text 1 ≡ 48)))

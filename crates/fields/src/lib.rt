@@ -1,36 +1,57 @@
 #![tactic(auto)]
 // Numbers as fields have them: shortest decimals, with a minus sign before a negative number.
-ghost use Rattle.std.specs.Prelude.{◌≡◌, ◌≢◌, ℕ, ◌^◌, ◌<◌, ℤ, Option, Some, decimal, FitsSigned, MatchOption};
+ghost use Rattle.std.specs.Prelude.{◌≡◌, ◌≢◌, ℕ, ◌^◌, ◌<◌, ◌∷◌, ℤ, Option, Some, decimal, FitsSigned, MatchOption};
 ghost use Rattle.std.specs.Int.{w64};
 ghost use Rattle.std.specs.Fmt.{signed_decimal};
-ghost use Rattle.std.specs.Str.{IsUtf8};
-ghost use Rattle.fields.specs.Reading.{Prints, Undoes, Unprinted};
+ghost use Rattle.fields.specs.Reading.{Prints, Undoes};
 ghost use Rattle.fields.specs.Fields.{field, FieldLaws};
 
 use std::fmt;
 
-// The first natural number that is not read: 10^19.
-const LIMIT: u64 = 10_000_000_000_000_000_000;
+// So many digits always fit 64 bits.
+const MOST_DIGITS: usize = 19;
 
-// The text that the bytes are, unless it begins as the library reads a number and prints none.
-fn printed(bytes: &[u8]) -> Option<&str>
-    ensures { MatchOption result (IsUtf8 bytes.now → Unprinted bytes.now) (λ text. (text.now ≡ bytes.now) × ¬ (Unprinted bytes.now)) }
-{
-    match bytes {
-        [b'+', ..] | [b'0', _, ..] | [b'-', b'0', ..] => None,
-        _ => str::from_utf8(bytes).ok(),
-    }
-}
+// The only length at which 0 may come first.
+const ONE_DIGIT: usize = 1;
+
+// How far the lowest number is below 0.
+const LOWEST: u64 = 9223372036854775808;
+
+const HIGHEST: u64 = 9223372036854775807;
 
 // The natural number below 10^19 that the bytes write.
 pub fn natural(bytes: &[u8]) -> Option<u64>
     ensures prints { Prints (λ n. n < 10 ^ 19) decimal bytes.now result }
     ensures undoes { Undoes (λ n. n < 10 ^ 19) decimal bytes.now result }
 {
-    match printed(bytes)?.parse::<u64>() {
-        Ok(n) if n < LIMIT => Some(n),
-        _ => None,
+    if bytes.len() == 0 || bytes.len() > MOST_DIGITS {
+        return None;
     }
+    if bytes[0] == b'0' && bytes.len() > ONE_DIGIT {
+        return None;
+    }
+    let mut n = 0u64;
+    for b in bytes {
+        if *b < b'0' || *b > b'9' {
+            return None;
+        }
+        n = n * 10 + (*b - b'0') as u64;
+    }
+    Some(n)
+}
+
+// The negative integer of 64 bits that the bytes write after its sign.
+fn negative(bytes: &[u8]) -> Option<i64>
+    ensures prints { Prints (FitsSigned w64) signed_decimal (45 ∷ bytes.now) result }
+    ensures undoes { Undoes (FitsSigned w64) signed_decimal (45 ∷ bytes.now) result }
+{
+    let Some(n) = natural(bytes) else {
+        return None;
+    };
+    if n == 0 || n > LOWEST {
+        return None;
+    }
+    Some(-1 - (n - 1) as i64)
 }
 
 // The integer of 64 bits that the bytes write.
@@ -38,7 +59,13 @@ pub fn integer(bytes: &[u8]) -> Option<i64>
     ensures prints { Prints (FitsSigned w64) signed_decimal bytes.now result }
     ensures undoes { Undoes (FitsSigned w64) signed_decimal bytes.now result }
 {
-    printed(bytes)?.parse::<i64>().ok()
+    if bytes.len() > 0 && bytes[0] == b'-' {
+        return negative(&bytes[1..]);
+    }
+    match natural(bytes) {
+        Some(n) if n <= HIGHEST => Some(n as i64),
+        _ => None,
+    }
 }
 
 // A value that is a number of one of some types, as a field has it: a letter for the type, and the number.

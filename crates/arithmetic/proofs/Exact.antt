@@ -1,5 +1,5 @@
 -- Exact results in 128 bits, of numbers of 64 bits.
-use Rattle.std.proofs.Common.{◌≡◌, ◌≤◌, true, ◌≢◌, ℤ, pos, nat_abs, None, Ok, ◌+ℤ◌, ◌-ℤ◌, ◌*ℤ◌, Some, refl, ap, subst, ◌∙◌, div-le_self, arith, w64, SFits, to_z, of_z}
+use Rattle.std.proofs.Common.{◌≡◌, ℕ, ◌≤◌, true, ◌≢◌, ℤ, pos, neg_ℤ, nat_abs, None, Ok, ◌+ℤ◌, ◌-ℤ◌, ◌*ℤ◌, Some, refl, ap, subst, ◌∙◌, div-le_self, arith, w64, SFits, to_z, of_z}
 use native.Mathlib.Nat.{mod-le}
 use lib.Signed.{quot_z, rem_z}
 use mir.Syntax.{w128}
@@ -47,11 +47,14 @@ product_fits p =
     subst (λ (x : ℤ). SFits w128 (x *ℤ p.n)) (same p.m _ (m_fits p) refl)
     (subst (λ (y : ℤ). SFits w128 (to_z w128 (of_z w128 (to_z w64 (of_z w64 p.m))) *ℤ y)) (same p.n _ (n_fits p) refl) bound)
 
+abs_neg : (n : ℕ) → nat_abs (neg_ℤ (pos n)) ≡ n
+abs_neg n = omega (arith, ints)
+
 quot_abs : (m n : ℤ) → nat_abs (quot_z m n) ≤ nat_abs m
 quot_abs m n = let e = div-le_self (nat_abs m) (nat_abs n) in grind (arith, ints)
 
-pub quot_fits : (p : Pair) → SFits w128 (quot_z p.m p.n)
-quot_fits p = omega (arith, ints, quot_abs p.m p.n, m_fits p)
+pub quot_fits : (m n : ℤ) → SFits w64 m → SFits w128 (quot_z m n)
+quot_fits m n f = omega (arith, ints, quot_abs m n)
 
 pub rem_inside : (t : ScalarType) (m n : ℤ) → inside t m ≡ true → inside t (rem_z m n) ≡ true
 rem_inside t m n h = let e = mod-le (nat_abs m) (nat_abs n) in grind (arith, nat_tests, ints)

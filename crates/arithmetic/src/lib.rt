@@ -1,9 +1,10 @@
 #![tactic(auto)]
 // The operators on two scalars of one type: the exact result, brought into the type.
-ghost use Rattle.std.specs.Prelude.{◌≡◌, true, pos, Ok};
+ghost use Rattle.std.specs.Prelude.{◌≡◌, ◌≢◌, true, pos, Ok};
+ghost use Rattle.scalar_value.specs.declared.ScalarType.TheVariants.{Bool as BoolType};
 ghost use Rattle.scalar_value.specs.Types.{inside};
 ghost use Rattle.scalar_value.specs.Numbers.{wrapped};
-ghost use Rattle.arithmetic.specs.Operations.{concrete, settled, sum, difference, product, lenient, unless, quotient, remainder, bits, answer, operation, alike};
+ghost use Rattle.arithmetic.specs.Operations.{concrete, settled, sum, difference, product, lenient, unless, quotient, remainder, equals, bits, answer, operation, alike};
 
 use host::{HostFault, Stage};
 use scalar_value::number::{within_type, wrap_into};
@@ -48,6 +49,12 @@ fn answer_of(b: bool) -> Result<Scalar, HostFault>
     ensures { result ≡ answer b }
 {
     Ok(Scalar::Bool(b))
+}
+
+pub fn are_equal(m: i64, n: i64) -> bool
+    ensures { result ≡ equals m n }
+{
+    m == n
 }
 
 // Two numbers of one type.
@@ -126,26 +133,50 @@ impl Pair {
         Ok(wrap_into(self.of, i128::from(f(a, b))))
     }
 
-    // What an operator answers: of Bools, there are but four.
-    fn operate(self, stage: Stage, op: BinaryOperator) -> Result<Scalar, HostFault>
-        ensures { result ≡ operation stage op self.of self.m self.n }
+    // An operator on two Bools: there are but four.
+    fn operate_on_bools(self, op: BinaryOperator) -> Result<Scalar, HostFault>
+        requires { self.of ≡ BoolType }
+        ensures { (stage : Stage) → result ≡ operation stage op BoolType self.m self.n }
     {
         match op {
             BinaryOperator::BinaryAnd => self.bitwise(|a, b| a & b),
             BinaryOperator::BinaryOr => self.bitwise(|a, b| a | b),
-            BinaryOperator::Equality => answer_of(self.m == self.n),
-            BinaryOperator::Inequality => answer_of(self.m != self.n),
-            _ if self.of == ScalarType::Bool => Err(HostFault::Binary),
+            BinaryOperator::Equality => answer_of(are_equal(self.m, self.n)),
+            BinaryOperator::Inequality => answer_of(!are_equal(self.m, self.n)),
+            _ => Err(HostFault::Binary),
+        }
+    }
+
+    // An operator on two integers of one type.
+    fn operate_on_integers(self, stage: Stage, op: BinaryOperator) -> Result<Scalar, HostFault>
+        requires { self.of ≢ BoolType }
+        ensures { result ≡ operation stage op self.of self.m self.n }
+    {
+        match op {
             BinaryOperator::Addition => self.add(),
             BinaryOperator::Subtraction => self.subtract(),
             BinaryOperator::Multiplication => self.multiply(),
             BinaryOperator::Division => self.divide(stage),
             BinaryOperator::Remainder => self.rest(stage),
+            BinaryOperator::BinaryAnd => self.bitwise(|a, b| a & b),
+            BinaryOperator::BinaryOr => self.bitwise(|a, b| a | b),
             BinaryOperator::BinaryXor => self.bitwise(|a, b| a ^ b),
+            BinaryOperator::Equality => answer_of(are_equal(self.m, self.n)),
+            BinaryOperator::Inequality => answer_of(!are_equal(self.m, self.n)),
             BinaryOperator::LessThan => answer_of(self.m < self.n),
             BinaryOperator::LessThanEqual => answer_of(self.m <= self.n),
             BinaryOperator::GreaterThan => answer_of(self.m > self.n),
             BinaryOperator::GreaterThanEqual => answer_of(self.m >= self.n),
+        }
+    }
+
+    // What an operator answers, first by the type: one match with a guard for Bools takes a third longer.
+    fn operate(self, stage: Stage, op: BinaryOperator) -> Result<Scalar, HostFault>
+        ensures { result ≡ operation stage op self.of self.m self.n }
+    {
+        match self.of {
+            ScalarType::Bool => self.operate_on_bools(op),
+            _ => self.operate_on_integers(stage, op),
         }
     }
 }

@@ -118,5 +118,18 @@ pub fn wrap_into(t: ScalarType, z: i128) -> Scalar
     ensures value { result ≡ wrapped t z }
     ensures keeps { inside t z ≡ true → result ≡ scalar t z }
 {
-    within_type(t, t.wrap(z)).unwrap()
+    of_inside(t, t.wrap(z))
+}
+
+// The scalar of a number that its type has: no range is tested again.
+fn of_inside(t: ScalarType, z: i128) -> Scalar
+    requires { inside t z ≡ true }
+    ensures { result ≡ scalar t z }
+{
+    match t {
+        ScalarType::Bool => Scalar::Bool(z != 0),
+        ScalarType::AbstractInt => Scalar::AbstractInt(z as i64),
+        ScalarType::I32 => Scalar::I32(z as i32),
+        ScalarType::U32 => Scalar::U32(z as u32),
+    }
 }

@@ -93,15 +93,20 @@ fn operate(op: BinaryOperator, v: TariffValue, w: TariffValue) -> Result<TariffV
 {
     let (s, t) = (v.tariff_type(), w.tariff_type());
     let (m, n) = (u32::from(v), u32::from(w));
-    let sum = type_of_sum(s, t).ok_or(HostFault::Binary);
-    let product = type_of_product(s, t).ok_or(HostFault::Binary);
-    let quotient = type_of_quotient(s, t).ok_or(HostFault::Binary);
+    // closures, so that an operator pays for its own type alone
+    let sum = || type_of_sum(s, t).ok_or(HostFault::Binary);
+    let product = || type_of_product(s, t).ok_or(HostFault::Binary);
+    let quotient = || type_of_quotient(s, t).ok_or(HostFault::Binary);
     match op {
-        BinaryOperator::Addition => typed(sum?, m.checked_add(n), HostFault::AddOverflow),
-        BinaryOperator::Subtraction => typed(sum?, m.checked_sub(n), HostFault::SubOverflow),
-        BinaryOperator::Multiplication => typed(product?, m.checked_mul(n), HostFault::MulOverflow),
-        BinaryOperator::Division => typed(quotient?, m.checked_div(n), HostFault::DivByZero),
-        BinaryOperator::Remainder => typed(sum?, m.checked_rem(n), HostFault::RemZeroDiv),
+        BinaryOperator::Addition => typed(sum()?, m.checked_add(n), HostFault::AddOverflow),
+        BinaryOperator::Subtraction => typed(sum()?, m.checked_sub(n), HostFault::SubOverflow),
+        BinaryOperator::Multiplication => typed(
+            product()?,
+            m.checked_mul(n),
+            HostFault::MulOverflow,
+        ),
+        BinaryOperator::Division => typed(quotient()?, m.checked_div(n), HostFault::DivByZero),
+        BinaryOperator::Remainder => typed(sum()?, m.checked_rem(n), HostFault::RemZeroDiv),
         BinaryOperator::BinaryAnd => on_flags(v, w, |a, b| a && b),
         BinaryOperator::BinaryOr => on_flags(v, w, |a, b| a || b),
         BinaryOperator::BinaryXor => Err(HostFault::Binary),

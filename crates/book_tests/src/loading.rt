@@ -8,7 +8,9 @@ use std::test::Fail;
 type Verdict = Result<u16, BookError>;
 
 fn verdict(words: &[u16]) -> Verdict {
-    Ok(Book::new(words)?.entries())
+    let mut book = Book::empty();
+    book.load(words)?;
+    Ok(book.entries())
 }
 
 fn refused(fault: BookFault, entry: u16) -> Verdict {

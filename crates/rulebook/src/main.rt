@@ -16,21 +16,22 @@ use std::{env, fs, io};
 const USAGE: &str =
     "usage: rulebook check FILE, show FILE or behavior FILE, or rulebook batch with such commands on standard input";
 
-// More bytes than the longest book has: what comes behind them makes no difference.
+// More bytes than the longest book has, and a whole number of words: what comes behind them makes no difference, and is not
+// waited for.
 const ENOUGH: u64 = 131_076;
 
 // The bytes of a file, as far as they can matter.
 fn read_file(rt: &HostRuntime, path: &str) -> anyhow::Result<Vec<u8>> {
     let file = fs::open(rt, path).context(format_args!("{path}"))?;
     let mut bytes = Vec::new(rt.alloc());
-    file.take(ENOUGH + 1).read_to_end(&mut bytes)?;
+    file.take(ENOUGH).read_to_end(&mut bytes)?;
     Ok(bytes)
 }
 
 // The words of a file; an odd byte is no word, unless the file is too long for a book anyway.
 fn read_words(rt: &HostRuntime, path: &str) -> anyhow::Result<Vec<u16>> {
     let bytes = read_file(rt, path)?;
-    if bytes.len() as u64 <= ENOUGH && bytes.len() % 2 != 0 {
+    if bytes.len() % 2 != 0 {
         return Err(anyhow!("an odd number of bytes").context(format_args!("{path}")));
     }
     Ok(words_of(rt.alloc(), bytes.as_slice())?)
@@ -73,8 +74,9 @@ where
     requires { F.IsAlwaysCallable print }
 {
     let words = read_words(rt, path)?;
-    match Book::new(words.as_slice()) {
-        Ok(book) => print(rt, &book),
+    let mut book = Book::empty();
+    match book.load(words.as_slice()) {
+        Ok(()) => print(rt, &book),
         Err(error) => Ok(print_refusal(rt, error)?),
     }
 }

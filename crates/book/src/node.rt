@@ -4,7 +4,7 @@ ghost use Rattle.std.specs.List.{slice_get};
 ghost use Rattle.std.specs.Iterator.{YieldsFirst, item_count};
 ghost use Rattle.book.specs.Children.{Children};
 ghost use Rattle.layout.specs.Layout.{entries};
-ghost use Rattle.book.specs.Nodes.{listed, node_at, node_of, optional, optional_type, paired};
+ghost use Rattle.book.specs.Nodes.{assignment_node, binary_node, declaration_node, for_node, function_node, if_node, listed, literal_node, node_at, node_of, optional, optional_type, paired, unary_node};
 
 use crate::book::Book;
 use layout::walk::{construct_at, word};
@@ -260,147 +260,214 @@ fn words_from(ws: &[u16], from: usize, n: usize) -> &[u16]
     &rest[..n.min(rest.len())]
 }
 
+// Constructs of more parts, and those of which a word may name nothing, have functions of their own: in the one match of
+// `node_of` they make every node a third slower to read.
+fn assignment_node(number: u16, lhs: u16, rhs: u16) -> Option<Node>
+    ensures { result ≡ assignment_node number lhs rhs }
+{
+    if number == 0 {
+        return Some(Node::Assignment {
+            operator: None,
+            lhs,
+            rhs,
+        });
+    }
+    let operator = BinaryOperator::try_from(number - 1).ok()?;
+    Some(Node::Assignment {
+        operator: Some(operator),
+        lhs,
+        rhs,
+    })
+}
+
+// The short circuits follow the 14 other operators.
+fn binary_node(number: u16, left: u16, right: u16) -> Option<Node>
+    ensures { result ≡ binary_node number left right }
+{
+    if number < 14 {
+        let operator = BinaryOperator::try_from(number).ok()?;
+        return Some(Node::Binary {
+            operator,
+            left,
+            right,
+        });
+    }
+    let operator = ShortCircuit::try_from(number - 14).ok()?;
+    Some(Node::ShortCircuit {
+        operator,
+        left,
+        right,
+    })
+}
+
+fn unary_node(number: u16, operand: u16) -> Option<Node>
+    ensures { result ≡ unary_node number operand }
+{
+    let operator = UnaryOperator::try_from(number).ok()?;
+    Some(Node::Unary { operator, operand })
+}
+
+// Behind its clauses an `if` has the body of its else.
+fn if_node(ws: &[u16], p: usize) -> Node
+    requires { p ≤ 65535 }
+    ensures { result ≡ if_node ws.now p }
+{
+    let count = word(ws, p + 1);
+    let otherwise = optional(word(ws, p + 2 + 2 * count as usize));
+    Node::If {
+        clauses: Pairs {
+            start: p + 2,
+            count,
+        },
+        otherwise,
+    }
+}
+
+fn for_node(ws: &[u16], p: usize) -> Node
+    requires { p ≤ 65535 }
+    ensures { result ≡ for_node ws.now p }
+{
+    Node::For {
+        initializer: optional(word(ws, p + 1)),
+        condition: optional(word(ws, p + 2)),
+        update: optional(word(ws, p + 3)),
+        body: word(ws, p + 4),
+    }
+}
+
+fn declaration_node(ws: &[u16], p: usize) -> Option<Node>
+    requires { p ≤ 65535 }
+    ensures { result ≡ declaration_node ws.now p }
+{
+    let kind = DeclarationKind::try_from(word(ws, p + 1)).ok()?;
+    let name = word(ws, p + 2);
+    let ty = optional_type(word(ws, p + 3));
+    let initializer = optional(word(ws, p + 4));
+    Some(Node::Declaration {
+        kind,
+        name,
+        ty,
+        initializer,
+    })
+}
+
+fn literal_node(ws: &[u16], p: usize) -> Node
+    requires { p ≤ 65535 }
+    ensures { result ≡ literal_node ws.now p }
+{
+    let words = [
+        word(ws, p + 2),
+        word(ws, p + 3),
+        word(ws, p + 4),
+        word(ws, p + 5),
+    ];
+    Node::Literal {
+        kind: word(ws, p + 1),
+        words,
+    }
+}
+
+fn function_node(ws: &[u16], p: usize) -> Node
+    requires { p ≤ 65535 }
+    ensures { result ≡ function_node ws.now p }
+{
+    let flags = word(ws, p + 2);
+    Node::Function {
+        name: word(ws, p + 1),
+        is_const: flags % 2 == 1,
+        must_use: flags >= 2,
+        ty: optional_type(word(ws, p + 3)),
+        body: word(ws, p + 4),
+        parameters: Pairs {
+            start: p + 6,
+            count: word(ws, p + 5),
+        },
+    }
+}
+
 // The node of a construct whose body stands at `p`.
 fn node_of(construct: Construct, ws: &[u16], p: usize) -> Option<Node>
     requires { p ≤ 65535 }
     ensures { result ≡ node_of construct ws.now p }
 {
-    match construct {
-        Construct::Unit => Some(Node::Unit {
+    let node = match construct {
+        Construct::Unit => Node::Unit {
             children: Items {
                 start: p + 2,
                 count: word(ws, p + 1),
             },
-        }),
-        Construct::Empty => Some(Node::Empty),
-        Construct::Compound => Some(Node::Compound {
+        },
+        Construct::Empty => Node::Empty,
+        Construct::Compound => Node::Compound {
             statements: Items {
                 start: p + 2,
                 count: word(ws, p + 1),
             },
-        }),
-        Construct::Assignment => Some(Node::Assignment {
-            operator: match word(ws, p + 1) {
-                0 => None,
-                number => Some(BinaryOperator::try_from(number - 1).ok()?),
-            },
-            lhs: word(ws, p + 2),
-            rhs: word(ws, p + 3),
-        }),
-        Construct::Increment => Some(Node::Increment {
-            operand: word(ws, p + 1),
-        }),
-        Construct::Decrement => Some(Node::Decrement {
-            operand: word(ws, p + 1),
-        }),
-        // behind its clauses an `if` has the body of its else
-        Construct::If => {
-            let count = word(ws, p + 1);
-            Some(Node::If {
-                clauses: Pairs {
-                    start: p + 2,
-                    count,
-                },
-                otherwise: optional(word(ws, p + 2 + 2 * count as usize)),
-            })
         },
-        Construct::Switch => Some(Node::Switch {
+        Construct::Assignment => return assignment_node(
+            word(ws, p + 1),
+            word(ws, p + 2),
+            word(ws, p + 3),
+        ),
+        Construct::Increment => Node::Increment {
+            operand: word(ws, p + 1),
+        },
+        Construct::Decrement => Node::Decrement {
+            operand: word(ws, p + 1),
+        },
+        Construct::If => return Some(if_node(ws, p)),
+        Construct::Switch => Node::Switch {
             expression: word(ws, p + 1),
             clauses: Pairs {
                 start: p + 3,
                 count: word(ws, p + 2),
             },
-        }),
-        Construct::Loop => Some(Node::Loop {
+        },
+        Construct::Loop => Node::Loop {
             body: word(ws, p + 1),
             continuing: optional(word(ws, p + 2)),
-        }),
-        Construct::For => Some(Node::For {
-            initializer: optional(word(ws, p + 1)),
-            condition: optional(word(ws, p + 2)),
-            update: optional(word(ws, p + 3)),
-            body: word(ws, p + 4),
-        }),
-        Construct::While => Some(Node::While {
+        },
+        Construct::For => return Some(for_node(ws, p)),
+        Construct::While => Node::While {
             condition: word(ws, p + 1),
             body: word(ws, p + 2),
-        }),
-        Construct::Break => Some(Node::Break),
-        Construct::Continue => Some(Node::Continue),
-        Construct::Return => Some(Node::Return {
+        },
+        Construct::Break => Node::Break,
+        Construct::Continue => Node::Continue,
+        Construct::Return => Node::Return {
             expression: optional(word(ws, p + 1)),
-        }),
-        Construct::Discard => Some(Node::Discard),
-        Construct::CallStatement => Some(Node::CallStatement {
+        },
+        Construct::Discard => Node::Discard,
+        Construct::CallStatement => Node::CallStatement {
             call: word(ws, p + 1),
-        }),
-        Construct::ConstAssert => Some(Node::ConstAssert {
+        },
+        Construct::ConstAssert => Node::ConstAssert {
             expression: word(ws, p + 1),
-        }),
-        Construct::Declaration => Some(Node::Declaration {
-            kind: DeclarationKind::try_from(word(ws, p + 1)).ok()?,
-            name: word(ws, p + 2),
-            ty: optional_type(word(ws, p + 3)),
-            initializer: optional(word(ws, p + 4)),
-        }),
-        Construct::Continuing => Some(Node::Continuing {
+        },
+        Construct::Declaration => return declaration_node(ws, p),
+        Construct::Continuing => Node::Continuing {
             body: word(ws, p + 1),
             break_if: optional(word(ws, p + 2)),
-        }),
-        Construct::Literal => Some(Node::Literal {
-            kind: word(ws, p + 1),
-            words: [
-                word(ws, p + 2),
-                word(ws, p + 3),
-                word(ws, p + 4),
-                word(ws, p + 5),
-            ],
-        }),
-        Construct::Parenthesized => Some(Node::Parenthesized {
-            expression: word(ws, p + 1),
-        }),
-        Construct::Unary => Some(Node::Unary {
-            operator: UnaryOperator::try_from(word(ws, p + 1)).ok()?,
-            operand: word(ws, p + 2),
-        }),
-        // the short circuits follow the 14 other operators
-        Construct::Binary => match word(ws, p + 1) {
-            number @ 0..14 => Some(Node::Binary {
-                operator: BinaryOperator::try_from(number).ok()?,
-                left: word(ws, p + 2),
-                right: word(ws, p + 3),
-            }),
-            number => Some(Node::ShortCircuit {
-                operator: ShortCircuit::try_from(number - 14).ok()?,
-                left: word(ws, p + 2),
-                right: word(ws, p + 3),
-            }),
         },
-        Construct::Name => Some(Node::Name {
+        Construct::Literal => return Some(literal_node(ws, p)),
+        Construct::Parenthesized => Node::Parenthesized {
+            expression: word(ws, p + 1),
+        },
+        Construct::Unary => return unary_node(word(ws, p + 1), word(ws, p + 2)),
+        Construct::Binary => return binary_node(word(ws, p + 1), word(ws, p + 2), word(ws, p + 3)),
+        Construct::Name => Node::Name {
             name: word(ws, p + 1),
-        }),
-        Construct::Call => Some(Node::Call {
+        },
+        Construct::Call => Node::Call {
             name: word(ws, p + 1),
             arguments: Items {
                 start: p + 3,
                 count: word(ws, p + 2),
             },
-        }),
-        Construct::Function => {
-            let flags = word(ws, p + 2);
-            Some(Node::Function {
-                name: word(ws, p + 1),
-                is_const: flags % 2 == 1,
-                must_use: flags >= 2,
-                ty: optional_type(word(ws, p + 3)),
-                body: word(ws, p + 4),
-                parameters: Pairs {
-                    start: p + 6,
-                    count: word(ws, p + 5),
-                },
-            })
         },
-    }
+        Construct::Function => return Some(function_node(ws, p)),
+    };
+    Some(node)
 }
 
 // What an entry says, by the words of its book; none past the last.

@@ -55,6 +55,7 @@ fn negative(bytes: &[u8]) -> Option<i64>
 }
 
 // The integer of 64 bits that the bytes write.
+#[inline]
 pub fn integer(bytes: &[u8]) -> Option<i64>
     ensures prints { Prints (FitsSigned w64) signed_decimal bytes.now result }
     ensures undoes { Undoes (FitsSigned w64) signed_decimal bytes.now result }

@@ -1,10 +1,9 @@
 -- What holds of every table's state holds after one scope more, one less, and with none but the root's.
 use Rattle.std.proofs.Common.{◌≡◌, ℕ, ◌≤◌, true, cond, List, [], ◌∷◌, length, reverse, take, sym, refl, ap, ◌∙◌, subst, ⊎_elim, arith}
 use Rattle.std.proofs.lemmas.Grind.{common_steps}
-use Rattle.std.proofs.lemmas.List.{length-reverse, length-take-le}
 use Rattle.std.proofs.lemmas.Bool.{cases_Bool, ltb-true}
 use Rattle.names.specs.Rules.{close_all, close_scope, closing, may_open, open_scope, open_scopes, root_names}
-use Rattle.names.specs.Scopes.{Scoped, nested, opened}
+use Rattle.names.specs.Scopes.{Scoped, nested}
 use Rattle.names.specs.State.{Kept, State}
 use Rattle.names.specs.declared.binding.Binding.{Binding}
 use Rattle.names.specs.declared.scope.Scope.{Scope}
@@ -14,14 +13,9 @@ use Rattle.names.proofs.Opened.{root_end_le}
 
 module _ {V : Type 0} where
   -- The invariant of a table says it of the table's state.
-  pub kept_table : (bs : List (Binding V)) (usable : ℕ) (table : List Scope) (depth clean own : ℕ) (s : State V) → record { bindings = bs; scopes = opened table depth; usable = usable } ≡ s → Scoped table depth clean own (length bs) usable → Kept V s
-  kept_table bs usable table depth clean own s is i =
-      subst (Kept V) is
-      (record {
-        in_order = i.in_order;
-        counted = i.counted;
-        shallow = omega (arith, i.shallow, i.sized, length-reverse (take depth table), length-take-le depth table (omega (arith, i.shallow, i.sized)));
-      })
+  pub kept_table : (bs : List (Binding V)) (usable : ℕ) (scopes : List Scope) (own : ℕ) (s : State V) → record { bindings = bs; scopes = scopes; usable = usable } ≡ s → Scoped scopes own (length bs) usable → Kept V s
+  kept_table bs usable scopes own s is i =
+      subst (Kept V) is (record { in_order = i.in_order; counted = i.counted; shallow = i.shallow })
 
   kept_open : (kind : ScopeKind) (s : State V) → may_open s ≡ true → Kept V s → Kept V (open_scope kind s)
   kept_open kind s may k =

@@ -1,37 +1,10 @@
--- A table of names of which no scope is open, with one scope more, or one less.
-use Rattle.std.proofs.Common.{◌≡◌, ℕ, ◌≤◌, true, cond, replicate, get_or, sym, refl, ap, ◌∙◌, subst, ⊎_elim, arith}
-use Rattle.std.proofs.lemmas.List.{get_or-replicate, get_or_past, length-replicate}
-use Rattle.std.proofs.lemmas.Bool.{cases_lt}
+-- A scope more, and what it gives back.
+use Rattle.std.proofs.Common.{◌≡◌, true, cond, sym, ap, ◌∙◌, subst}
 use Rattle.names.specs.Laws.{GivesBack}
 use Rattle.names.specs.Rules.{may_open, open_scope}
-use Rattle.names.specs.Scopes.{Scoped, closed}
 use Rattle.names.specs.State.{State}
-use Rattle.names.specs.declared.scope.Scope.{Scope}
 use Rattle.names.specs.declared.scope.ScopeKind.{ScopeKind}
-use Rattle.names.specs.declared.scope.ScopeKind.TheVariants.{Regular}
 use Rattle.names.proofs.Laws.{gives_back}
-
-pub closed_is : (s : Scope) → s.first ≡ 0 → s.kind ≡ Regular → s ≡ closed
-closed_is s first kind = ap (λ k. record { first = k; kind = s.kind }) first ∙ ap (λ k. record { first = 0; kind = k }) kind
-
-blank : (n : ℕ) (k : ℕ) → get_or (replicate n closed) k closed ≡ closed
-blank n k =
-    ⊎_elim (get_or-replicate n k closed closed)
-    (λ h. get_or_past (replicate n closed) k closed (omega (arith, length-replicate n closed)))
-    (cases_lt k n)
-
--- No scope is open in a table of blank records.
-pub scoped_none : (s : Scope) (n usable : ℕ) → s ≡ closed → n ≤ usable → Scoped (replicate 257 s) 0 257 0 n usable
-scoped_none s n usable is few =
-    record {
-      counted = few;
-      sized = length-replicate 257 s;
-      shallow = omega arith;
-      in_order = refl;
-      called = refl;
-      opened_clean = omega arith;
-      cleared = λ k _ _. ap (λ x. get_or (replicate 257 x) k closed) is ∙ blank 257 k;
-    }
 
 -- What an open scope gives back once it is closed.
 pub opened_gives_back : {V : Type 0} (kind : ScopeKind) (s t : State V) → t ≡ cond (may_open s) (open_scope kind s) s → may_open s ≡ true → GivesBack s t

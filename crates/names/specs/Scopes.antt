@@ -1,5 +1,5 @@
 -- Scopes that are open inside the root's, the innermost first, by the places of their first names.
-use Rattle.std.specs.Prelude.{◌≡◌, ◌≤◌, ◌<◌, ℕ, Bool, true, false, ◌&&◌, List, [], ◌∷◌, codes, length, slice_index_or, reverse, take, nat_le}
+use Rattle.std.specs.Prelude.{◌≡◌, ◌≤◌, ℕ, Bool, true, false, ◌&&◌, List, [], ◌∷◌, codes, length, reverse, take, nat_le}
 use Rattle.names.specs.declared.scope.Scope.{Scope}
 use Rattle.names.specs.declared.scope.ScopeKind.{ScopeKind}
 use Rattle.names.specs.declared.scope.ScopeKind.TheVariants.{Regular, Transparent, Call}
@@ -58,14 +58,9 @@ abbrev pub nested : List Scope → ℕ → Bool
 nested [] n = true
 nested (scope ∷ outer) n = nat_le scope.first n && nested outer scope.first
 
--- A table of scopes that are open to a depth, over n names of as many as may be: they are in order, the innermost call's names begin at `own`,
--- and the records behind theirs are blank, up to `clean`. That is never less than the depth, so a scope that closes leaves
--- its record blank.
-pub record Scoped (table : List Scope) (depth clean own n usable : ℕ) : Type 0 where
+-- Open scopes over n names of as many as may be: they are in order, and the innermost call's names begin at `own`.
+pub record Scoped (scopes : List Scope) (own n usable : ℕ) : Type 0 where
   pub counted : n ≤ usable
-  pub sized : length table ≡ 257
-  pub shallow : depth ≤ 257
-  pub in_order : nested (opened table depth) n ≡ true
-  pub called : own ≡ call_first (opened table depth)
-  pub opened_clean : depth ≤ clean
-  pub cleared : (k : ℕ) → depth ≤ k → k < clean → slice_index_or table k closed ≡ closed
+  pub shallow : length scopes ≤ 257
+  pub in_order : nested scopes n ≡ true
+  pub called : own ≡ call_first scopes

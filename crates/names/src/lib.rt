@@ -8,4 +8,5 @@ pub mod lookup;
 pub mod names;
 pub mod scope;
 pub mod scopes;
+mod table;
 pub mod write;

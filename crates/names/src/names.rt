@@ -1,7 +1,7 @@
 // The table of names.
 use crate::binding::Binding;
 use crate::lent::LentVec;
-use crate::scope::Scope;
+use crate::table::ScopeTable;
 use std::marker::Model;
 
 // How many names there may be at most.
@@ -10,15 +10,11 @@ pub const MOST_NAMES: usize = 1024;
 // How many scopes may be open inside the root's: one for each of 256 entries, and one for a function that is called from outside.
 pub const MOST_SCOPES: usize = 257;
 
-// What is bound, the oldest first, and the open scopes inside the root's, the first of `scopes`.
+// What is bound, the oldest first, and the open scopes inside the root's.
 #[derive(Drop)]
 pub struct Names<'a, V> {
     pub(crate) bindings: LentVec<'a, Binding<V>>,
-    // a plain table, and no list that forgets its last record: one record is written on opening, and blanked on closing
-    pub(crate) scopes: [Scope; MOST_SCOPES],
-    pub(crate) depth: usize,
-    // the records of scopes that closed since the last opening are blank: those behind the open ones, up to here
-    pub(crate) clean: usize,
+    pub(crate) scopes: ScopeTable,
     // where the innermost call's names begin
     pub(crate) own: usize,
 }
@@ -31,7 +27,7 @@ impl<'a, V> Model for Names<'a, V> {
 
     ghost use Rattle.names.specs.Scopes.{Scoped, opened};
 
-    ghost view = { λ n. record { bindings = n.bindings.items; scopes = opened n.scopes n.depth; usable = n.bindings.capacity } };
+    ghost view = { λ n. record { bindings = n.bindings.items; scopes = opened n.scopes.records n.scopes.depth; usable = n.bindings.capacity } };
 
-    ghost invariant = { λ n. Scoped n.scopes n.depth n.clean n.own (length n.bindings.items) n.bindings.capacity };
+    ghost invariant = { λ n. Scoped (opened n.scopes.records n.scopes.depth) n.own (length n.bindings.items) n.bindings.capacity };
 }

@@ -6,8 +6,9 @@ ghost use Rattle.names.specs.State.{Kept};
 
 use crate::binding::Binding;
 use crate::lent::LentVec;
-use crate::names::{MOST_NAMES, MOST_SCOPES, Names};
+use crate::names::{MOST_NAMES, Names};
 use crate::scope::{Scope, ScopeKind, call_first, root_end};
+use crate::table::ScopeTable;
 
 impl<'a, V: Copy> Names<'a, V> {
     // No name, and the root's scope alone. The first 1,024 records are usable, or all of a shorter table.
@@ -19,9 +20,7 @@ impl<'a, V: Copy> Names<'a, V> {
         let (table, _) = table.split_at_mut(usable);
         Names {
             bindings: LentVec::new(table),
-            scopes: [Scope::default(); MOST_SCOPES],
-            depth: 0,
-            clean: MOST_SCOPES,
+            scopes: ScopeTable::new(),
             own: 0,
         }
     }
@@ -30,7 +29,7 @@ impl<'a, V: Copy> Names<'a, V> {
     pub(crate) fn open(&self) -> &[Scope]
         ensures { reverse result.now ≡ self.now.scopes }
     {
-        &self.scopes[..self.depth]
+        self.scopes.as_slice()
     }
 
     // One scope more. With 257 open inside the root's nothing changes: an executor never comes there.
@@ -39,16 +38,13 @@ impl<'a, V: Copy> Names<'a, V> {
         ensures gives_back { may_open self.old ≡ true → GivesBack self.old self.new }
         ensures kept { Kept V self.new }
     {
-        if self.depth >= MOST_SCOPES {
+        let first = self.bindings.len();
+        if self.scopes.push(Scope { first, kind }).is_err() {
             return;
         }
-        let first = self.bindings.len();
         if kind == ScopeKind::Call {
             self.own = first;
         }
-        self.scopes[self.depth] = Scope { first, kind };
-        self.depth += 1;
-        self.clean = self.depth;
     }
 
     // The innermost scope closes, and its names are free. The root's stays open.
@@ -57,15 +53,12 @@ impl<'a, V: Copy> Names<'a, V> {
         ensures root_survives { root_names self.new ≡ root_names self.old }
         ensures kept { Kept V self.new }
     {
-        if self.depth == 0 {
+        let Some(scope) = self.scopes.pop() else {
             return;
-        }
-        self.depth -= 1;
-        let scope = self.scopes[self.depth];
-        self.scopes[self.depth] = Scope::default();
+        };
         self.bindings.truncate(scope.first);
         if scope.kind == ScopeKind::Call {
-            self.own = call_first(&self.scopes[..self.depth]);
+            self.own = call_first(self.scopes.as_slice());
         }
     }
 
@@ -76,10 +69,9 @@ impl<'a, V: Copy> Names<'a, V> {
         ensures root_survives { root_names self.new ≡ root_names self.old }
         ensures kept { Kept V self.new }
     {
-        let end = root_end(&self.scopes[..self.depth], self.bindings.len());
+        let end = root_end(self.scopes.as_slice(), self.bindings.len());
         self.bindings.truncate(end);
-        self.depth = 0;
-        self.clean = 0;
+        self.scopes.clear();
         self.own = 0;
     }
 }

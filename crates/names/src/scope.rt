@@ -34,7 +34,7 @@ impl FromStr for ScopeKind {
     }
 }
 
-// The default is the record of a scope that is not open.
+// The default is a blank record, of no scope.
 #[derive(Clone, Copy, Default)]
 pub struct Scope {
     // the place of its first name

@@ -1,5 +1,5 @@
-// The open scopes inside the root's, the first records of a plain table: a record is written on opening, and blanked where its
-// scope closes. Only here is a scope opened or closed.
+// The open scopes inside the root's, the first records of a plain table. A record is written where a scope opens, and blanked
+// where one closes alone; where all close at once the records stay. No record is written elsewhere.
 ghost use Rattle.std.specs.Prelude.{◌≡◌, ◌-◌, ◌<◌, ◌≤◌, ◌∷◌, [], length, reverse, slice_index_or, MatchOption, MatchResult};
 ghost use Rattle.names.specs.Scopes.{closed, opened};
 
@@ -7,7 +7,7 @@ use crate::lent::Full;
 use crate::names::MOST_SCOPES;
 use crate::scope::{Scope, ScopeKind};
 
-// The record of a scope that is not open.
+// A blank record: the default, which is no constant.
 const CLOSED: Scope = Scope {
     first: 0,
     kind: ScopeKind::Regular,
@@ -15,7 +15,7 @@ const CLOSED: Scope = Scope {
 
 #[derive(Drop)]
 pub(crate) struct ScopeTable {
-    records: [Scope; 257],
+    records: [Scope; MOST_SCOPES],
     depth: usize,
     ghost sized: { length records ≡ 257 },
     ghost shallow: { depth ≤ 257 },
@@ -27,7 +27,7 @@ impl ScopeTable {
         ensures { opened result.records result.depth ≡ [] }
     {
         ScopeTable {
-            records: [CLOSED; 257],
+            records: [CLOSED; MOST_SCOPES],
             depth: 0,
         }
     }

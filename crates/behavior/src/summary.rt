@@ -156,6 +156,13 @@ impl<'a> Summaries<'a> {
         }
     }
 
+    // The book: a list in the control of an entry is a span of its words.
+    pub fn book(&self) -> Book<'a>
+        ensures { result.words.now ≡ self.now }
+    {
+        self.book
+    }
+
     // The control of an entry: its children stand after it, and their summaries make that of the entry.
     #[tactic(auto, using(crate::proofs::Openings::follow_at, crate::proofs::Summed::summed_at))]
     pub fn control(&self, entry: u16) -> Control

@@ -2,6 +2,8 @@ use behavior::analysis::behavior_of;
 use behavior::set::{Behavior, NONE};
 use behavior::summary::Summaries;
 use book::book::Book;
+use book::node::Listed;
+use control::Control;
 use fitness::analysis::fit;
 use fitness::fault::{Reason, Unfit};
 use std::test::Fail;
@@ -77,6 +79,33 @@ fn nothing_past_the_last_entry(rt: HostRuntime) {
     for entry in [1, 4095, 4096, u16::MAX] {
         assert_eq!(rt; summaries.set_of(entry), None);
         assert_eq!(rt; summaries.of(entry).behavior, NONE);
+    }
+}
+
+// The statements of a list, by the summaries alone.
+fn statements_of<'a>(summaries: &Summaries<'a>, entry: u16) -> Option<Listed<'a>> {
+    match summaries.control(entry) {
+        Control::Sequence(items) => Some(summaries.book().listed(items)),
+        _ => None,
+    }
+}
+
+#[test]
+fn summaries_know_their_book(rt: HostRuntime) -> Result<(), Fail> {
+    // { break; ; }
+    let words = [4, 5, 7, 11, 12, 0, 0, 2, 2, 2, 3, 11, 1];
+    let mut book = Book::empty();
+    assert!(rt; book.load(&words).is_ok());
+    let summaries = Summaries::new(book);
+    match statements_of(&summaries, 1) {
+        Some(mut statements) => {
+            assert_eq!(rt; statements.next(), Some(2));
+            assert_eq!(rt; statements.next(), Some(3));
+            assert_eq!(rt; statements.next(), None);
+            assert!(rt; statements_of(&summaries, 2).is_none());
+            Ok(())
+        }
+        None => Err(Fail::new("no list")),
     }
 }
 

@@ -1,7 +1,8 @@
 // The open scopes inside the root's, the first records of a plain table. A record is written where a scope opens, and blanked
-// where one closes alone; where all close at once the records stay. No record is written elsewhere.
+// where one closes alone; where all close at once the records stay. No record is written elsewhere, so that all behind the open
+// scopes are blank for as long as scopes close one by one.
 ghost use Rattle.std.specs.Prelude.{◌≡◌, ◌-◌, ◌<◌, ◌≤◌, ◌∷◌, [], length, reverse, slice_index_or, MatchOption, MatchResult};
-ghost use Rattle.names.specs.Scopes.{closed, opened};
+ghost use Rattle.names.specs.Scopes.{Cleared, closed, opened};
 
 use crate::lent::Full;
 use crate::names::MOST_SCOPES;
@@ -24,7 +25,8 @@ pub(crate) struct ScopeTable {
 impl ScopeTable {
     // No scope.
     pub(crate) fn new() -> ScopeTable
-        ensures { opened result.records result.depth ≡ [] }
+        ensures scopes { opened result.records result.depth ≡ [] }
+        ensures cleared { Cleared result.records result.depth }
     {
         ScopeTable {
             records: [CLOSED; MOST_SCOPES],
@@ -41,9 +43,10 @@ impl ScopeTable {
 
     // One scope more, unless every record has one.
     pub(crate) fn push(&mut self, scope: Scope) -> Result<(), Full>
-        ensures { MatchResult result
+        ensures scopes { MatchResult result
             (λ _. (length (opened self.old.records self.old.depth) < 257) × (opened self.new.records self.new.depth ≡ scope ∷ opened self.old.records self.old.depth))
             (λ _. (257 ≤ length (opened self.old.records self.old.depth)) × (self.new ≡ self.old)) }
+        ensures stays_cleared { Cleared self.old.records self.old.depth → Cleared self.new.records self.new.depth }
     {
         if self.depth >= MOST_SCOPES {
             return Err(Full);
@@ -59,6 +62,7 @@ impl ScopeTable {
             (opened self.old.records self.old.depth ≡ [] × (self.new ≡ self.old))
             (λ scope. opened self.old.records self.old.depth ≡ scope ∷ opened self.new.records self.new.depth) }
         ensures cleared { 0 < self.old.depth → slice_index_or self.new.records self.new.depth closed ≡ closed }
+        ensures stays_cleared { Cleared self.old.records self.old.depth → Cleared self.new.records self.new.depth }
     {
         if self.depth == 0 {
             return None;

@@ -11,6 +11,7 @@ use Rattle.names.specs.declared.scope.ScopeKind.{ScopeKind}
 use Rattle.names.specs.declared.scope.ScopeKind.TheVariants.{Regular}
 use Rattle.names.proofs.Laws.{gives_back}
 
+-- A record of these fields is the blank one.
 pub closed_is : (s : Scope) → s.first ≡ 0 → s.kind ≡ Regular → s ≡ closed
 closed_is s first kind = ap (λ k. record { first = k; kind = s.kind }) first ∙ ap (λ k. record { first = 0; kind = k }) kind
 

@@ -1,5 +1,5 @@
 -- Scopes that are open inside the root's, the innermost first, by the places of their first names.
-use Rattle.std.specs.Prelude.{◌≡◌, ◌≤◌, ℕ, Bool, true, false, ◌&&◌, List, [], ◌∷◌, codes, length, slice_index_or, reverse, take, nat_le}
+use Rattle.std.specs.Prelude.{◌≡◌, ◌≢◌, ◌≤◌, ℕ, Bool, true, false, ◌&&◌, List, [], ◌∷◌, codes, length, slice_index_or, reverse, take, nat_le}
 use Rattle.names.specs.declared.scope.Scope.{Scope}
 use Rattle.names.specs.declared.scope.ScopeKind.{ScopeKind}
 use Rattle.names.specs.declared.scope.ScopeKind.TheVariants.{Regular, Transparent, Call}
@@ -21,6 +21,11 @@ opened table depth = reverse (take depth table)
 -- The records of a table from a depth on are blank.
 abbrev pub Cleared : List Scope → ℕ → Type 0
 Cleared table depth = (k : ℕ) → depth ≤ k → slice_index_or table k closed ≡ closed
+
+-- Two tables have the same records, but for one place.
+abbrev pub SameBut : ℕ → List Scope → List Scope → Type 0
+SameBut place table other =
+    (k : ℕ) → k ≢ place → slice_index_or table k closed ≡ slice_index_or other k closed
 
 -- One thing for a call's scope, another for others.
 abbrev pub if_call : {A : Type 0} → ScopeKind → A → A → A

@@ -1,8 +1,8 @@
 // The open scopes inside the root's, the first records of a plain table. A record is written where a scope opens, and blanked
 // where one closes alone; where all close at once the records stay. No record is written elsewhere, so that all behind the open
 // scopes are blank for as long as scopes close one by one.
-ghost use Rattle.std.specs.Prelude.{◌≡◌, ◌≢◌, ℕ, ◌-◌, ◌<◌, ◌≤◌, ◌∷◌, [], length, reverse, slice_index_or, MatchOption, MatchResult};
-ghost use Rattle.names.specs.Scopes.{Cleared, closed, opened};
+ghost use Rattle.std.specs.Prelude.{◌≡◌, ◌-◌, ◌<◌, ◌≤◌, ◌∷◌, [], length, reverse, slice_index_or, MatchOption, MatchResult};
+ghost use Rattle.names.specs.Scopes.{Cleared, SameBut, closed, opened};
 
 use crate::lent::Full;
 use crate::names::MOST_SCOPES;
@@ -46,7 +46,7 @@ impl ScopeTable {
         ensures scopes { MatchResult result
             (λ _. (length (opened self.old.records self.old.depth) < 257) × (opened self.new.records self.new.depth ≡ scope ∷ opened self.old.records self.old.depth))
             (λ _. (257 ≤ length (opened self.old.records self.old.depth)) × (self.new ≡ self.old)) }
-        ensures elsewhere { (k : ℕ) → k ≢ self.old.depth → slice_index_or self.new.records k closed ≡ slice_index_or self.old.records k closed }
+        ensures elsewhere { SameBut self.old.depth self.new.records self.old.records }
         ensures stays_cleared { Cleared self.old.records self.old.depth → Cleared self.new.records self.new.depth }
     {
         if self.depth >= MOST_SCOPES {
@@ -63,7 +63,7 @@ impl ScopeTable {
             (opened self.old.records self.old.depth ≡ [] × (self.new ≡ self.old))
             (λ scope. opened self.old.records self.old.depth ≡ scope ∷ opened self.new.records self.new.depth) }
         ensures cleared { 0 < self.old.depth → slice_index_or self.new.records self.new.depth closed ≡ closed }
-        ensures elsewhere { (k : ℕ) → k ≢ self.new.depth → slice_index_or self.new.records k closed ≡ slice_index_or self.old.records k closed }
+        ensures elsewhere { SameBut self.new.depth self.new.records self.old.records }
         ensures stays_cleared { Cleared self.old.records self.old.depth → Cleared self.new.records self.new.depth }
     {
         if self.depth == 0 {
